@@ -1,0 +1,179 @@
+// The calls of the unit: one function for each call word, which reads the words behind it and hands typed values on.
+use crate::fields::{port_words, stamp_words};
+use crate::words::{begins, number, octets_at, signed64, unsigned16, unsigned64, unsigned8};
+use layout::message::Port;
+use numbers::stamp::Stamp;
+
+// The settings of a unit as the line has them, in its order.
+pub struct Settings {
+    pub domain: u8,
+    pub port: Port,
+    pub announce: i64,
+    pub sync: i64,
+    pub kp: i64,
+    pub ki: i64,
+    pub limit: i64,
+    pub watch: Watch,
+}
+
+// Those of the drift watch.
+pub struct Watch {
+    pub window: i64,
+    pub minimum: i64,
+    pub holdoff: i64,
+    pub tolerance: i64,
+    pub spike: i64,
+    pub jump: i64,
+}
+
+// The octets of a Receive stand in front of the buffer that they were read into, as many as it says.
+pub enum UnitCall {
+    None,
+    Make(Settings),
+    Receive(u64, Stamp, usize),
+    Request(u64, usize),
+    Sent(u64, u16, Stamp),
+    Time(u64),
+    Reset,
+    Tick(i64, i64),
+    Line,
+    Show,
+}
+
+pub struct WatchWords {
+    pub watch: Watch,
+    pub next: usize,
+}
+
+fn watch_words(s: &[u8], at: usize) -> WatchWords {
+    let window = signed64(s, at);
+    let minimum = signed64(s, window.next);
+    let holdoff = signed64(s, minimum.next);
+    let tolerance = signed64(s, holdoff.next);
+    let spike = signed64(s, tolerance.next);
+    let jump = signed64(s, spike.next);
+    let watch = Watch {
+        window: window.value,
+        minimum: minimum.value,
+        holdoff: holdoff.value,
+        tolerance: tolerance.value,
+        spike: spike.value,
+        jump: jump.value,
+    };
+    WatchWords { watch, next: jump.next }
+}
+
+fn unit(s: &[u8], at: usize) -> UnitCall {
+    let domain = unsigned8(s, at);
+    let own = port_words(s, domain.next);
+    let announce = signed64(s, own.next);
+    let sync = signed64(s, announce.next);
+    let kp = signed64(s, sync.next);
+    let ki = signed64(s, kp.next);
+    let limit = signed64(s, ki.next);
+    let last = watch_words(s, limit.next);
+    if last.next == s.len() {
+        let port = own.port;
+        let watch = last.watch;
+        return UnitCall::Make(Settings {
+            domain: domain.value,
+            port,
+            announce: announce.value,
+            sync: sync.value,
+            kp: kp.value,
+            ki: ki.value,
+            limit: limit.value,
+            watch,
+        });
+    }
+    UnitCall::None
+}
+
+fn receive(s: &[u8], at: usize, octets: &mut [u8]) -> UnitCall {
+    let now = unsigned64(s, at);
+    let words = stamp_words(s, now.next);
+    let message = octets_at(s, words.next, octets);
+    if message.next == s.len() {
+        let arrival = words.stamp;
+        return UnitCall::Receive(now.value, arrival, message.count);
+    }
+    UnitCall::None
+}
+
+fn request(s: &[u8], at: usize) -> UnitCall {
+    let now = unsigned64(s, at);
+    let length = number(s, now.next, 2000);
+    if length.next == s.len() {
+        return UnitCall::Request(now.value, length.value as usize);
+    }
+    UnitCall::None
+}
+
+fn sent(s: &[u8], at: usize) -> UnitCall {
+    let now = unsigned64(s, at);
+    let sequence = unsigned16(s, now.next);
+    let words = stamp_words(s, sequence.next);
+    if words.next == s.len() {
+        let t3 = words.stamp;
+        return UnitCall::Sent(now.value, sequence.value, t3);
+    }
+    UnitCall::None
+}
+
+fn time(s: &[u8], at: usize) -> UnitCall {
+    let now = unsigned64(s, at);
+    if now.next == s.len() {
+        return UnitCall::Time(now.value);
+    }
+    UnitCall::None
+}
+
+fn tick(s: &[u8], at: usize) -> UnitCall {
+    let reference = signed64(s, at);
+    let clock = signed64(s, reference.next);
+    if clock.next == s.len() {
+        return UnitCall::Tick(reference.value, clock.value);
+    }
+    UnitCall::None
+}
+
+// A call with no words.
+fn alone(s: &[u8], at: usize, call: UnitCall) -> UnitCall {
+    if at == s.len() { call } else { UnitCall::None }
+}
+
+// The call that the line is, or none.
+pub(crate) fn unit_call(s: &[u8], octets: &mut [u8]) -> UnitCall {
+    if begins(s, b"unit") {
+        return unit(s, 4);
+    }
+    if begins(s, b"receive") {
+        return receive(s, 7, octets);
+    }
+    if begins(s, b"request") {
+        return request(s, 7);
+    }
+    if begins(s, b"sent") {
+        return sent(s, 4);
+    }
+    short_call(s)
+}
+
+fn short_call(s: &[u8]) -> UnitCall {
+    if begins(s, b"time") {
+        return time(s, 4);
+    }
+    if begins(s, b"tick") {
+        return tick(s, 4);
+    }
+    if begins(s, b"reset") {
+        return alone(s, 5, UnitCall::Reset);
+    }
+    if begins(s, b"line") {
+        return alone(s, 4, UnitCall::Line);
+    }
+    if begins(s, b"show") {
+        return alone(s, 4, UnitCall::Show);
+    }
+    UnitCall::None
+}

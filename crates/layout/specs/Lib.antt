@@ -1,0 +1,5 @@
+pub mod Kinds
+pub mod Positions
+pub mod Suffix
+pub mod Reading
+pub mod Writing

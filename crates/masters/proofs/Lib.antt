@@ -1,0 +1,15 @@
+-- Laws of the masters. For callers: Times, Comparing, Choices, Admissions, Keys; document 01's example: Examples. The rest serves these and the proofs
+-- of the code.
+pub mod Times
+pub mod Smaller
+pub mod Comparing
+pub mod Examples
+pub mod Placing
+pub mod Keys
+pub mod Grounds
+pub mod Seating
+pub mod Admissions
+pub mod Keeping
+pub mod Order
+pub mod Turns
+pub mod Choices

@@ -1,0 +1,25 @@
+-- Big-endian numbers over the width: `num k at s` is the number in the k octets of s from `at`, `digits k x` the k octets of x.
+use mathlib.Core.List.{List, [], _∷_, _++_}
+use Prim.Native.Nat.{ℕ, zero, suc, _+_, _*_, _/_, _%_, _^_, _<_}
+use lib.ListN.{length, getD, take, drop}
+
+unfoldable pub num : ℕ → ℕ → List ℕ → ℕ
+num zero at s = 0
+num (suc k) at s = num k at s * 256 + getD s (at + k) 0
+
+-- x without its last k octets
+abbrev pub shift : ℕ → ℕ → ℕ
+shift zero x = x
+shift (suc k) x = x / 256 ^ suc k
+
+unfoldable pub digits : ℕ → ℕ → List ℕ
+digits zero x = []
+digits (suc k) x = shift k x % 256 ∷ digits k x
+
+-- each element is an octet
+abbrev pub Octets : List ℕ → Type 0
+Octets s = (i : ℕ) → getD s i 0 < 256
+
+-- d with a in place of what stood from `at`
+abbrev pub put : List ℕ → ℕ → List ℕ → List ℕ
+put d at a = take at d ++ a ++ drop (at + length a) d

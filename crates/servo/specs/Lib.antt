@@ -1,0 +1,4 @@
+pub mod Offsets
+pub mod Ten
+pub mod Steps
+pub mod Shows

@@ -1,0 +1,5 @@
+pub mod Settings
+pub mod Window
+pub mod Totals
+pub mod Rules
+pub mod Watch

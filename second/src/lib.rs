@@ -1,0 +1,18 @@
+//! The second program: document 01 in plain Rust, told in other terms than the core tells it.
+
+pub mod answer;
+pub mod answerer;
+pub mod call;
+pub mod compare;
+pub mod dice;
+pub mod exchange;
+pub mod lists;
+pub mod masters;
+pub mod message;
+pub mod nearest;
+pub mod refusal;
+pub mod servo;
+pub mod settings;
+pub mod text;
+pub mod unit;
+pub mod watch;

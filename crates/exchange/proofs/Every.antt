@@ -8,7 +8,6 @@ use lib.IntN.{ℤ, pos, _-ℤ_}
 use Rattle.numbers.specs.declared.stamp.Stamp.{Stamp}
 use Rattle.numbers.specs.declared.refusal.Refusal.{Refusal}
 use Rattle.numbers.specs.declared.refusal.Refusal.the-variants.{Field, Correction, Unmatched}
-use Rattle.layout.specs.declared.message.Port.{Port}
 use Rattle.exchange.specs.declared.Exchange.{Exchange}
 use Rattle.exchange.specs.declared.Answer.{Answer}
 use Rattle.exchange.specs.declared.Answer.the-variants.{Held, Paired, Asked, Stamped, Back, Neg, Long, Huge, HugeFaulty, Path, PathWipes, Step}
@@ -18,7 +17,7 @@ use Rattle.exchange.specs.declared.measure.Sum.the-variants.{Delay, Neg 
 use Rattle.exchange.specs.Delays.{pathOf, usedOf}
 use Rattle.exchange.specs.Halves.{SyncHalf, noSync, awaits, knows, RequestHalf, noRequest, asked, stamped, syncHalf, requestHalf}
 use Rattle.exchange.specs.Measure.{sumOf, hugeOf, stepOf}
-use Rattle.exchange.specs.Table.{Event, oneStep, twoStep, followUp, requested, sent, delayResp, Row, unmatched, syncIs, requestIs, measures, table, if-matching, samePort}
+use Rattle.exchange.specs.Table.{Event, oneStep, twoStep, followUp, requested, sent, delayResp, Row, syncIs, requestIs, measures, table, if-matching, samePort}
 use Rattle.exchange.specs.Events.{freshExchange, answers, refused, withSync, withRequest, withLast, withRows, withDelay, Local, none, stamp, local, fieldIn, correctionIn, backward, takes, spent, ns, hugeAgain, pathAgain, measuredAs, offsetOf, accepted, judged, bySum, finished, follows, told}
 use Rattle.exchange.proofs.Judged.{Least, sum-range}
 

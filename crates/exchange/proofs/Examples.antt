@@ -12,7 +12,7 @@ use Rattle.exchange.specs.declared.Answer.the-variants.{Neg, Long}
 use Rattle.exchange.specs.Median.{below, middling, firstMiddling}
 use Rattle.exchange.specs.Delays.{pathBy, usedBy, filtered}
 use Rattle.exchange.specs.Halves.{freshSync, freshRequest, noStamp}
-use Rattle.exchange.specs.Measure.{forwardOf, backOf, sumOf}
+use Rattle.exchange.specs.Measure.{forwardOf, sumOf}
 use Rattle.exchange.specs.Events.{freshExchange, answers, accepted, judged, measuredAs, finished}
 
 -- forward is t2 - t1 less the two corrections, each cut: half a nanosecond below 0 is cut to -1, half above it to 0

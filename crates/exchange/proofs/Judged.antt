@@ -1,14 +1,14 @@
 -- The verdicts: the delay's range, and that what stands at 10^18 ns for more is judged as the exact number is.
-use mathlib.Core.Path.{_≡_, refl, sym, ap, _∙_, subst}
+use mathlib.Core.Path.{_≡_, refl, ap, _∙_, subst}
 use mathlib.Core.Bool.{Bool, true, false, cond}
-use mathlib.Core.List.{List, [], _∷_}
-use Prim.Native.Nat.{ℕ, suc, _+_, _<_, _≤_, _^_, min}
+use mathlib.Core.List.{[], _∷_}
+use Prim.Native.Nat.{ℕ, suc, _<_, _≤_, _^_, min}
 use native.Mathlib.Omega.{arith}
 use borrow.Author.Tests.{lt-ltb, le-ltb, le-leb, ltb-true, ltb-false, leb-false}
-use lib.Dec.{T, leb, ltb}
+use lib.Dec.{leb, ltb}
 use lib.IntN.{ℤ, pos, negsuc, negℤ, natAbs, _+ℤ_, _-ℤ_}
 use lib.Signed.{ltZ}
-use Rattle.numbers.specs.Integers.{up, dn, Within, abs-parts, one-side}
+use Rattle.numbers.specs.Integers.{Within, abs-parts, one-side}
 use Rattle.numbers.specs.Rounding.{halfToEven, held}
 use Rattle.numbers.specs.declared.stamp.Stamp.{Stamp}
 use Rattle.numbers.proofs.Ring.{v, _⊖_, rep}
@@ -18,11 +18,10 @@ use Rattle.exchange.specs.declared.halves.Sync.{Sync}
 use Rattle.exchange.specs.declared.halves.Request.{Request}
 use Rattle.exchange.specs.declared.Exchange.{Exchange}
 use Rattle.exchange.specs.declared.Answer.the-variants.{Step, Measured}
-use Rattle.exchange.specs.declared.Answered.{Answered}
 use Rattle.exchange.specs.declared.measure.Times.{Times}
 use Rattle.exchange.specs.declared.measure.Sum.{Sum}
 use Rattle.exchange.specs.declared.measure.Sum.the-variants.{Neg, Long, Delay}
-use Rattle.exchange.specs.Delays.{usedOf, filtered}
+use Rattle.exchange.specs.Delays.{filtered}
 use Rattle.exchange.specs.Halves.{freshSync, freshRequest}
 use Rattle.exchange.specs.Measure.{far, forwardOf, backOf, timesOf, sumOf, hugeOf, stepOf}
 use Rattle.exchange.specs.Events.{freshExchange, answers, ns, accepted, judged, bySum, finished, spent}

@@ -1,4 +1,5 @@
 -- Laws of the exchange. Promises says what holds of every event in every state; the others lead there, or serve a proof of the code.
+pub mod Tests
 pub mod Median
 pub mod Newest
 pub mod Exact

@@ -1,16 +1,14 @@
 -- The lower middle is there in every list that is not empty, there is only one, and it is the one in the middle of the list in order.
-use mathlib.Core.Path.{_≡_, refl, sym, ap, _∙_, subst}
+use mathlib.Core.Path.{_≡_, refl, sym, ap, _∙_}
 use mathlib.Core.Bool.{Bool, true, false, cond}
 use mathlib.Core.List.{List, [], _∷_}
-use Prim.Native.Nat.{ℕ, zero, suc, _+_, _<_, _≤_}
+use Prim.Native.Nat.{ℕ, zero, suc, _<_, _≤_}
 use native.Mathlib.Omega.{arith}
 use borrow.Author.Tests.{lt-ltb, le-ltb, le-leb, ltb-true, ltb-false, leb-true}
-use lib.Dec.{T, ltb, leb}
+use lib.Dec.{ltb, leb}
 use lib.ListN.{length, getD}
+use Rattle.exchange.proofs.Tests.{never}
 use Rattle.exchange.specs.Median.{below, middle, middling, firstMiddling, lowerMiddle}
-
-never : false ≡ true → ⊥
-never e = subst T (sym e) tt
 
 -- at most so many are smaller, and more are smaller or equal
 pub record LowerMiddle (l : List ℕ) (x : ℕ) : Type 0 where

@@ -1,10 +1,9 @@
 -- What the exchange promises of every event in every state. That each gets an answer, and only one, is said by `told`: it is a function.
-use mathlib.Core.Path.{_≡_, refl, sym, ap, _∙_, subst}
+use mathlib.Core.Path.{_≡_, refl, ap, _∙_, subst}
 use mathlib.Core.Bool.{Bool, true, false, cond}
-use mathlib.Core.List.{List, _∷_}
+use mathlib.Core.List.{_∷_}
 use Prim.Native.Nat.{ℕ}
 use borrow.Author.Tests.{ltb-false, eq-eqb, eqb-true}
-use lib.Dec.{T}
 use lib.IntN.{ℤ, natAbs}
 use lib.ListN.{take}
 use Rattle.numbers.specs.declared.stamp.Stamp.{Stamp}
@@ -21,9 +20,10 @@ use Rattle.exchange.specs.Delays.{acceptedBefore, filtered}
 use Rattle.exchange.specs.Halves.{SyncHalf, noSync, awaits, knows, RequestHalf, noRequest, asked, stamped, syncHalf, requestHalf, asSync, asRequest}
 use Rattle.exchange.specs.Table.{Event, delayResp, samePort, partnersOf}
 use Rattle.exchange.specs.Events.{freshExchange, correctionOf, finished, offsetOf, told}
-use Rattle.exchange.specs.Answers.{wipes, finishes, Spent, Same, Rows, Range, After}
+use Rattle.exchange.specs.Answers.{wipes, finishes, Spent, Range, After}
+use Rattle.exchange.proofs.Tests.{never}
 use Rattle.exchange.proofs.Newest.{newest}
-use Rattle.exchange.proofs.Told.{told-correction, told-row, resp-row, resp-none, partners-are, knows-is, given-is}
+use Rattle.exchange.proofs.Told.{told-correction, told-finished, told-stranger, partners-are, knows-is, given-is}
 use Rattle.exchange.proofs.Every.{ends-all, every}
 
 -- ---- the exchange after each answer, as specs/Answers.antt has it
@@ -55,9 +55,6 @@ after x e =
     }) e
 
 -- ---- by name
-never : false ≡ true → ⊥
-never e = subst T (sym e) tt
-
 -- what follows from the answer that was given
 by : (x : Exchange) (e : Event) {a : Answer} → told x e .answer ≡ a → After x a (told x e .exchange)
 by x e h = subst (λ (a : Answer). After x a (told x e .exchange)) h (after x e)
@@ -138,10 +135,8 @@ module _ (x : Exchange) (n : ℕ) (c : ℤ) (t4 : Stamp) (p own : Port) where
     where
       go : (a : Bool) → correctionOf c ≡ a → (b : Bool) → partnersOf (x .sync) (x .request) n p own ≡ b → finishes (told x Resp .answer) ≡ cond a false b
       go true e b f = ap (λ (r : Answered). finishes (r .answer)) (told-correction x Resp refl e)
-      go false e true f =
-          ap (λ (r : Answered). finishes (r .answer)) (told-row x Resp _ refl e (resp-row n c t4 p own (x .sync) (x .request) f)) ∙ finished-finishes x _ _
-      go false e false f =
-          ap (λ (r : Answered). finishes (r .answer)) (told-row x Resp _ refl e (resp-none n c t4 p own (syncHalf (x .sync)) (requestHalf (x .request)) f))
+      go false e true f = ap (λ (r : Answered). finishes (r .answer)) (told-finished x n c t4 p own e f) ∙ finished-finishes x _ _
+      go false e false f = ap (λ (r : Answered). finishes (r .answer)) (told-stranger x n c t4 p own e f)
 
 -- t1 and t2, t3, the pending sequenceId and the own port identity
 pub record There (x : Exchange) (n : ℕ) (p own : Port) : Type 0 where

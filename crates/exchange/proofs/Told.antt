@@ -1,9 +1,9 @@
 -- The order of the refusals, and the row of the table that the unit's memory leads to.
-use mathlib.Core.Path.{_≡_, refl, sym, ap, _∙_, subst}
-use mathlib.Core.Bool.{Bool, true, false, cond}
+use mathlib.Core.Path.{_≡_, refl, sym, ap, _∙_}
+use mathlib.Core.Bool.{Bool, true, false}
 use Prim.Native.Nat.{ℕ}
-use lib.Dec.{T, eqb}
-use lib.IntN.{ℤ}
+use lib.Dec.{eqb}
+use lib.IntN.{ℤ, _+ℤ_}
 use Rattle.numbers.specs.declared.stamp.Stamp.{Stamp}
 use Rattle.numbers.specs.declared.refusal.Refusal.the-variants.{Field, Correction, Unmatched}
 use Rattle.layout.specs.declared.message.Port.{Port}
@@ -14,10 +14,8 @@ use Rattle.exchange.specs.declared.Answer.the-variants.{Paired, Stamped}
 use Rattle.exchange.specs.Halves.{SyncHalf, noSync, awaits, knows, RequestHalf, noRequest, asked, stamped, syncHalf, requestHalf, waitsOf, waits, knowsOf, pendsOf, pends, givenOf}
 use Rattle.exchange.specs.Measure.{forwardOf, backOf}
 use Rattle.exchange.specs.Table.{Event, followUp, sent, delayResp, Row, unmatched, syncIs, requestIs, measures, table, samePort, partners, partnersOf}
-use Rattle.exchange.specs.Events.{told, stamp, local, fieldOf, fieldIn, correctionOf, correctionIn, answers, refused, takes, follows}
-
-never : false ≡ true → ⊥
-never e = subst T (sym e) tt
+use Rattle.exchange.proofs.Tests.{never}
+use Rattle.exchange.specs.Events.{told, stamp, local, fieldOf, fieldIn, correctionOf, correctionIn, answers, refused, takes, finished, follows}
 
 -- ---- 5, 19, and then the row
 module _ (x : Exchange) (e : Event) where
@@ -171,3 +169,14 @@ module _ (x : Exchange) (n : ℕ) where
   told-stamped t3 h k =
       ap (λ (b : Bool). takes (stamp t3) Stamped (given b t3)) (pends-is (x .request) n k .pending)
       ∙ sym (told-row x (sent n t3) _ h refl (sent-row (syncHalf (x .sync)) (x .request) n t3 k))
+
+-- ---- a Delay_Resp with all that it needs, and one without
+module _ (x : Exchange) (n : ℕ) (c : ℤ) (t4 : Stamp) (p own : Port) (h : correctionOf c ≡ false) where
+  pub told-finished : partnersOf (x .sync) (x .request) n p own ≡ true
+      → told x (delayResp n c t4 p own)
+      ≡ finished x (forwardOf (x .sync .t1) (x .sync .t2) (x .sync .correction) (x .sync .follow))
+      (forwardOf (x .sync .t1) (x .sync .t2) (x .sync .correction) (x .sync .follow) +ℤ backOf (x .request .t3) t4 c)
+  told-finished k = told-row x (delayResp n c t4 p own) _ refl h (resp-row n c t4 p own (x .sync) (x .request) k)
+
+  pub told-stranger : partnersOf (x .sync) (x .request) n p own ≡ false → told x (delayResp n c t4 p own) ≡ refused Unmatched x
+  told-stranger k = told-row x (delayResp n c t4 p own) unmatched refl h (resp-none n c t4 p own (syncHalf (x .sync)) (requestHalf (x .request)) k)

@@ -10,7 +10,6 @@ use Rattle.numbers.specs.declared.refusal.Refusal.{Refusal}
 use Rattle.numbers.specs.declared.refusal.Refusal.the-variants.{Field, Correction, Unmatched}
 use Rattle.exchange.specs.declared.Last.{Last}
 use Rattle.exchange.specs.declared.Exchange.{Exchange}
-use Rattle.exchange.specs.declared.Accepted.{Accepted}
 use Rattle.exchange.specs.declared.Answer.{Answer}
 use Rattle.exchange.specs.declared.Answer.the-variants.{Refused, Back, Neg, Long, Huge, HugeFaulty, Path, PathWipes, Step, Measured}
 use Rattle.exchange.specs.declared.Answered.{Answered}

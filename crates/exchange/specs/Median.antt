@@ -1,7 +1,7 @@
 -- The median: "lower middle for an even count".
 use mathlib.Core.Bool.{Bool, false, cond}
 use mathlib.Core.List.{List, [], _∷_}
-use Prim.Native.Nat.{ℕ, suc, _+_, _-_, _/_}
+use Prim.Native.Nat.{ℕ, suc, _-_, _/_}
 use lib.Dec.{leb, ltb}
 use lib.ListN.{length}
 

@@ -1,13 +1,12 @@
 -- The refusals in their order, and then the table's row: the measurement, judged as the exact numbers are.
-use mathlib.Core.Path.{_≡_, refl, sym, _∙_, ap}
+use mathlib.Core.Path.{refl, sym, _∙_}
 use borrow.Author.Needs.{needs}
 use mir.Syntax.{w64}
 use mir.Val.{SFits}
 use Rattle.numbers.specs.Integers.{back}
 use Rattle.exchange.specs.Table.{delayResp}
-use Rattle.exchange.specs.Halves.{syncHalf, requestHalf}
 use Rattle.exchange.proofs.Judged.{finish-times}
-use Rattle.exchange.proofs.Told.{told-correction, told-row, resp-row, resp-none}
+use Rattle.exchange.proofs.Told.{told-correction, told-finished, told-stranger}
 use Rattle.exchange.proofs.Exchange.delay_resp.Statement.{statement}
 use Rattle.exchange.proofs.Exchange.delay_resp.Tie as tie
 
@@ -53,21 +52,20 @@ returns-2 c =
     let e = rw (back (s .fits .correction)) at (m .measured .ensures) in
     (rw (back (forward-fits m), back (sum-fits m)) at (c .finish .ensures))
     ∙ finish-times x (m .measured .result) (x .sync) (x .request) (s .args .t4) (s .args .correction) e
-    ∙ sym (told-row x (delayResp (s .args .sequence) (s .args .correction) (s .args .t4) (s .args .requester) (s .args .own)) _ refl (sym h ∙ k .if1 .left)
-    (resp-row (s .args .sequence) (s .args .correction) (s .args .t4) (s .args .requester) (s .args .own) (x .sync) (x .request)
-    (sym (q .before .partners .ensures) ∙ q .if2 .taken)))
+    ∙ sym
+    (told-finished x (s .args .sequence) (s .args .correction) (s .args .t4) (s .args .requester) (s .args .own) (sym h ∙ k .if1 .left)
+    (sym (q .before .partners .ensures) ∙ q .if2 .taken))
 
 returns-3 : tie.Need-returns-3
 returns-3 c =
     let q = c .before in
     let k = q .before .before .before .before in
     let s = k .before .before in
-    let x = s .args .self in
     let h = rw (back (s .fits .correction)) at (k .before .correction .ensures) in
     c .refuse2 .ensures
-    ∙ sym (told-row x (delayResp (s .args .sequence) (s .args .correction) (s .args .t4) (s .args .requester) (s .args .own)) _ refl (sym h ∙ k .if1 .left)
-    (resp-none (s .args .sequence) (s .args .correction) (s .args .t4) (s .args .requester) (s .args .own) (syncHalf (x .sync)) (requestHalf (x .request))
-    (sym (q .before .partners .ensures) ∙ q .if2 .left)))
+    ∙ sym
+    (told-stranger (s .args .self) (s .args .sequence) (s .args .correction) (s .args .t4) (s .args .requester) (s .args .own) (sym h ∙ k .if1 .left)
+    (sym (q .before .partners .ensures) ∙ q .if2 .left))
 
 pub delay-resp-spec : {M : Type 1} → statement M
 delay-resp-spec =

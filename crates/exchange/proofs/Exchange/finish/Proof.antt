@@ -1,5 +1,5 @@
 -- Both halves are spent, and the sum decides.
-use mathlib.Core.Path.{_≡_, refl, sym, _∙_, ap}
+use mathlib.Core.Path.{sym, _∙_}
 use borrow.Author.Needs.{needs}
 use Rattle.numbers.specs.Integers.{back}
 use Rattle.exchange.proofs.Judged.{finish-by}

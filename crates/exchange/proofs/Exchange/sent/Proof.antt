@@ -1,5 +1,5 @@
 -- The refusals in their order, and then the table's row.
-use mathlib.Core.Path.{_≡_, refl, sym, _∙_, ap}
+use mathlib.Core.Path.{refl, sym, _∙_}
 use borrow.Author.Needs.{needs}
 use Rattle.exchange.specs.Table.{sent}
 use Rattle.exchange.specs.Halves.{syncHalf, requestHalf}

@@ -1,5 +1,5 @@
 -- By the last local stamp.
-use mathlib.Core.Path.{_≡_, refl, sym, _∙_, ap}
+use mathlib.Core.Path.{sym, _∙_}
 use borrow.Author.Needs.{needs}
 use Rattle.exchange.specs.Events.{takes}
 use Rattle.exchange.proofs.Exchange.take_stamp.Statement.{statement}

@@ -1,17 +1,14 @@
 -- `smaller` counts: what it has found is the count over the places passed.
-use mathlib.Core.Path.{_≡_, refl, sym, _∙_, ap}
+use mathlib.Core.Path.{_≡_, refl, _∙_, ap}
 use mathlib.Core.Logic.{⊎-elim}
-use Prim.Native.Nat.{ℕ, _≤_, _<_, _-_}
+use Prim.Native.Nat.{ℕ, _≤_, _-_}
 use native.Mathlib.Omega.{arith}
 use borrow.Author.Needs.{needs}
-use lib.ListN.{length, take, getD}
+use lib.ListN.{length, take}
 use Rattle.exchange.specs.Median.{below}
 use Rattle.exchange.proofs.Median.{below-hit, below-miss}
 use Rattle.exchange.proofs.delays.smaller.Statement.{statement}
 use Rattle.exchange.proofs.delays.smaller.Tie as tie
-use Rattle.exchange.proofs.delays.smaller.Reads as reads
-use Rattle.exchange.proofs.delays.smaller.Lts as lts
-use Rattle.exchange.proofs.delays.wide.Reads as wide-reads
 
 abbrev Inv-loop : tie.InvT-loop
 Inv-loop n x five found₀ i₀ found i = (i ≤ n) × ((found ≤ i) × (found ≡ below x (take i five)))
@@ -19,36 +16,28 @@ Inv-loop n x five found₀ i₀ found i = (i ≤ n) × ((found ≤ i) × (found 
 abbrev μ-loop : tie.MeasureT-loop
 μ-loop n x five found₀ i₀ found i = n - i
 
--- src/delays.rt:36:5
 loop-holds : tie.Need-loop-holds Inv-loop μ-loop
 unfolding below
 loop-holds c = (omega arith, (omega arith, refl))
 
--- src/delays.rt:37:17
 mul-wide : tie.Need-mul-wide Inv-loop μ-loop
 mul-wide c = search needs
 
--- src/delays.rt:37:17
 array-read-wide : tie.Need-array-read-wide Inv-loop μ-loop
 array-read-wide c = search needs
 
--- src/delays.rt:37:12
 wide-requires : tie.Need-wide-requires Inv-loop μ-loop
 wide-requires c κs = search needs
 
--- src/delays.rt:38:13
 add-found : tie.Need-add-found Inv-loop μ-loop
 add-found c = search needs
 
--- src/delays.rt:40:9
 add-i : tie.Need-add-i Inv-loop μ-loop
 add-i c = search needs
 
--- src/delays.rt:36:5
 loop-less : tie.Need-loop-less Inv-loop μ-loop
 loop-less c = search needs
 
--- src/delays.rt:36:5
 loop-again : tie.Need-loop-again Inv-loop μ-loop
 loop-again c =
     let s = c .before .before .before .before in
@@ -58,7 +47,6 @@ loop-again c =
     (λ w. omega (arith, below-miss (s .args .x) (s .args .t1) (c .before .before .before .loop .i) (omega arith) (omega arith)))
     (c .if1 .came)
 
--- src/delays.rt:30:1
 returns : tie.Need-returns Inv-loop μ-loop
 returns c =
     let e : c .before .loop .i ≡ c .before .before .args .n = omega arith in

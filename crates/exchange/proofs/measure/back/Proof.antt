@@ -1,11 +1,9 @@
 -- The span is exact, and the correction is cut to 48 bits, so that the nanoseconds stay in range.
-use mathlib.Core.Path.{_≡_, refl, sym, _∙_, ap}
-use mathlib.Core.List.{List, [], _∷_}
-use Prim.Native.Nat.{ℕ, _^_}
-use native.Mathlib.Omega.{arith}
+use mathlib.Core.Path.{_≡_}
+use mathlib.Core.List.{[], _∷_}
+use Prim.Native.Nat.{_^_}
 use borrow.Author.Needs.{needs}
 use lib.Dec.{lit<}
-use lib.IntN.{ℤ}
 use Rattle.numbers.specs.Integers.{Within, back, within-fits}
 use Rattle.numbers.specs.Stamps.{lasting}
 use Rattle.numbers.proofs.Straight.{var, sub, asks, run, Env, end, _▸_}

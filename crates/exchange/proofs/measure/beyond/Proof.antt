@@ -1,13 +1,13 @@
 -- Both limits are sums of two numbers of 32 bits, and the tests decide.
 use mathlib.Core.Path.{_≡_}
-use Prim.Native.Nat.{ℕ, _<_, _^_}
+use Prim.Native.Nat.{_^_}
 use native.Mathlib.Omega.{arith}
 use borrow.Author.Needs.{needs}
-use lib.IntN.{ℤ, pos, _+ℤ_, _-ℤ_}
+use lib.IntN.{pos, _+ℤ_, _-ℤ_}
 use mir.Syntax.{w64}
 use mir.Val.{SFits, toZ}
 use Rattle.numbers.specs.Integers.{back, back-pos, pos-fits, Within}
-use Rattle.numbers.proofs.Straight.{raw, add, sub, asks, end, _▸_}
+use Rattle.numbers.proofs.Straight.{raw, sub, asks, end, _▸_}
 use Rattle.exchange.proofs.Exact.{beyond-over, beyond-under}
 use Rattle.exchange.proofs.measure.beyond.Statement.{statement}
 use Rattle.exchange.proofs.measure.beyond.Tie as tie

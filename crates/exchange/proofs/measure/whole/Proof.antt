@@ -1,12 +1,11 @@
 -- Beyond 2,000,000,000 seconds the limit stands; below it all is in range.
-use mathlib.Core.Path.{_≡_, refl, sym, _∙_, ap}
-use mathlib.Core.List.{List, [], _∷_}
-use Prim.Native.Nat.{ℕ, _^_}
+use mathlib.Core.List.{[], _∷_}
+use Prim.Native.Nat.{_^_}
 use borrow.Author.Needs.{needs, sfits-of}
-use lib.IntN.{ℤ, pos, _+ℤ_, _*ℤ_}
+use lib.IntN.{pos}
 use mir.Syntax.{w64}
 use mir.Val.{SFits}
-use Rattle.numbers.specs.Integers.{Within, back}
+use Rattle.numbers.specs.Integers.{back}
 use Rattle.numbers.specs.Stamps.{lasting}
 use Rattle.numbers.proofs.Straight.{Code, var, lit, mul, add, asks, run, Env, end, _▸_}
 use Rattle.exchange.proofs.Exact.{whole-over, whole-under, near-seconds}

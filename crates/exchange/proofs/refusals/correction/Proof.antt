@@ -1,5 +1,5 @@
 -- By the magnitude.
-use mathlib.Core.Path.{_≡_, refl, sym, _∙_, ap}
+use mathlib.Core.Path.{ap}
 use lib.Dec.{leb}
 use Prim.Native.Nat.{ℕ}
 use borrow.Author.Needs.{needs}

@@ -1,5 +1,5 @@
 -- What is not sound.
-use mathlib.Core.Path.{_≡_, refl, sym, _∙_, ap}
+use mathlib.Core.Path.{sym, _∙_}
 use borrow.Author.Needs.{needs}
 use Rattle.exchange.proofs.refusals.field.Statement.{statement}
 use Rattle.exchange.proofs.refusals.field.Tie as tie

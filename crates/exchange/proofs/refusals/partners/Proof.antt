@@ -1,5 +1,5 @@
 -- One after the other.
-use mathlib.Core.Path.{_≡_, refl, sym, _∙_, ap}
+use mathlib.Core.Path.{sym, _∙_}
 use borrow.Author.Needs.{needs}
 use Rattle.exchange.proofs.refusals.partners.Statement.{statement}
 use Rattle.exchange.proofs.refusals.partners.Tie as tie

@@ -1,11 +1,8 @@
 -- The delay goes in front of the five, and what is used follows from those that are held.
-use mathlib.Core.Path.{_≡_, refl, _∙_, ap, sym}
-use mathlib.Core.List.{List, [], _∷_}
-use Prim.Native.Nat.{ℕ, _+_, min}
+use mathlib.Core.Path.{_≡_, _∙_}
 use native.Mathlib.Omega.{arith}
 use borrow.Author.Needs.{needs}
-use lib.ListN.{length, take, getD}
-use Rattle.exchange.specs.Median.{lowerMiddle}
+use lib.ListN.{length}
 use Rattle.exchange.specs.Delays.{usedBy}
 use Rattle.exchange.proofs.Newest.{made, four, used-near, used-far}
 use Rattle.exchange.proofs.delays.Delays.filter.Statement.{statement}

@@ -1,3 +1,4 @@
+-- `signed_field8` meets its contract.
 use mir.Facts.{toZ-ofZ, sfits-widen}
 use borrow.Author.Needs.{needs}
 use Rattle.bench.proofs.text.signed_field8.Statement.{statement}

@@ -1,3 +1,4 @@
+-- `identity` meets its contract.
 use borrow.Author.Needs.{needs}
 use Rattle.bench.proofs.words.identity.Statement.{statement}
 use Rattle.bench.proofs.words.identity.Tie as tie

@@ -1,8 +1,26 @@
 // What is answered to a call.
-use crate::calls::Call;
-use crate::text::{field16, field32, field64, field8, identity_field, octets_field, signed_field16, signed_field64, signed_field8, text, Out};
-use crate::units::UnitCall;
-use layout::message::{Body, Header, Message, Offer, Part, Port, Read, Written};
+use crate::text::Out;
+use crate::text::field8;
+use crate::text::field16;
+use crate::text::field32;
+use crate::text::field64;
+use crate::text::identity_field;
+use crate::text::octets_field;
+use crate::text::signed_field8;
+use crate::text::signed_field16;
+use crate::text::signed_field64;
+use crate::text::text;
+use calls::Call;
+use calls::Store;
+use calls::units::UnitCall;
+use layout::message::Body;
+use layout::message::Header;
+use layout::message::Message;
+use layout::message::Offer;
+use layout::message::Part;
+use layout::message::Port;
+use layout::message::Read;
+use layout::message::Written;
 use numbers::refusal::Refusal;
 use numbers::stamp::Stamp;
 
@@ -130,7 +148,7 @@ fn unit(out: &mut Out, at: usize, call: UnitCall) -> usize {
     }
 }
 
-fn told(out: &mut Out, at: usize, call: Call, octets: &[u8]) -> usize {
+fn told(out: &mut Out, at: usize, call: Call, octets: &Store) -> usize {
     match call {
         Call::Bad => text(out, at, b"bad line"),
         Call::Lend(_) => text(out, at, b"ok"),
@@ -141,11 +159,19 @@ fn told(out: &mut Out, at: usize, call: Call, octets: &[u8]) -> usize {
 }
 
 // The call's line of answer, behind those gathered.
-pub(crate) fn answer(desk: Desk, call: Call, octets: &[u8], out: &mut Out) -> Desk {
+pub(crate) fn answer(desk: Desk, call: Call, octets: &Store, out: &mut Out) -> Desk {
     let end = told(out, desk.at, call, octets);
     let at = text(out, end, b"\n");
     match call {
-        Call::Lend(n) => Desk { length: 0, lent: n, at },
-        _ => Desk { length: 0, lent: desk.lent, at },
+        Call::Lend(n) => Desk {
+            length: 0,
+            lent: n,
+            at,
+        },
+        _ => Desk {
+            length: 0,
+            lent: desk.lent,
+            at,
+        },
     }
 }

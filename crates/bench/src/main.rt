@@ -1,21 +1,23 @@
 // The bench: reads a list of calls on standard input and writes one line of answer to each.
 mod answers;
-mod calls;
-mod fields;
 mod text;
-mod units;
-mod words;
 
-use answers::{answer, Desk};
+use answers::Desk;
+use answers::answer;
 use calls::call_of;
 use libc::STDIN_FILENO;
-use text::{flush, Out};
+use text::Out;
+use text::flush;
 ghost use Prim.Native.Nat.{_<_};
 ghost use lib.ListN.{length as List·length};
 
 // A line of this length stands in front of `line`; one that is longer than that is too long and counts as none, which is no call.
 fn whole_line(line: &[u8], length: usize) -> &[u8] {
-    if length <= line.len() { &line[0..length] } else { &line[0..0] }
+    if length <= line.len() {
+        &line[0..length]
+    } else {
+        &line[0..0]
+    }
 }
 
 // A line is empty or a remark.
@@ -31,7 +33,11 @@ fn passed_over(line: &[u8], length: usize) -> bool {
 
 fn line_end(desk: Desk, line: &[u8], length: usize, out: &mut Out) -> Desk {
     if passed_over(line, length) {
-        return Desk { length: 0, lent: desk.lent, at: desk.at };
+        return Desk {
+            length: 0,
+            lent: desk.lent,
+            at: desk.at,
+        };
     }
     let mut octets = [0u8; 131072];
     let call = call_of(whole_line(line, length), &mut octets);
@@ -55,7 +61,11 @@ fn gather(block: &[u8], from: usize, line: &mut [u8], length: usize) -> Gathered
         let b = block[i];
         i += 1;
         if b == b'\n' {
-            return Gathered { length: n, next: i, whole: true };
+            return Gathered {
+                length: n,
+                next: i,
+                whole: true,
+            };
         }
         if n < line.len() {
             line[n] = b;
@@ -64,7 +74,11 @@ fn gather(block: &[u8], from: usize, line: &mut [u8], length: usize) -> Gathered
             n = line.len() + 1;
         }
     }
-    Gathered { length: n, next: i, whole: false }
+    Gathered {
+        length: n,
+        next: i,
+        whole: false,
+    }
 }
 
 // The lines of a block are answered, but for the last where it goes on in the next block.
@@ -95,7 +109,11 @@ fn turns_left(turns: u64, got: usize) -> u64
 }
 
 fn run(block: &mut [u8], line: &mut [u8], out: &mut Out) {
-    let mut desk = Desk { length: 0, lent: 5, at: 0 };
+    let mut desk = Desk {
+        length: 0,
+        lent: 5,
+        at: 0,
+    };
     let mut turns = u64::MAX;
     while 0 < turns {
         let n = io::count(libc::read(STDIN_FILENO, block), block);

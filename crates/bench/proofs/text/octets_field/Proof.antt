@@ -1,7 +1,7 @@
 -- `octets_field` meets its contract.
+use native.Mathlib.Omega.{arith}
 use Prim.Native.Nat.{_-_}
 use lib.ListN.{length}
-use borrow.Author.Needs.{needs}
 use Rattle.bench.proofs.text.octets_field.Statement.{statement}
 use Rattle.bench.proofs.text.octets_field.Tie as tie
 
@@ -12,34 +12,34 @@ abbrev μ-loop : tie.MeasureT-loop
 μ-loop out₀ at name t end₀ i₀ out end i = length t - i
 
 text-requires : tie.Need-text-requires Inv-loop μ-loop
-text-requires c κs = search needs
+text-requires c κs = tt
 
 octet-requires : tie.Need-octet-requires Inv-loop μ-loop
-octet-requires c κs = search needs
+octet-requires c κs = tt
 
 returns : tie.Need-returns Inv-loop μ-loop
-returns c = search needs
+returns c = tt
 
 loop-holds : tie.Need-loop-holds Inv-loop μ-loop
-loop-holds c = search needs
+loop-holds c = omega arith
 
 shared-slice-read-hex-octet : tie.Need-shared-slice-read-hex-octet Inv-loop μ-loop
-shared-slice-read-hex-octet c = search needs
+shared-slice-read-hex-octet c = omega arith
 
 hex-octet-requires : tie.Need-hex-octet-requires Inv-loop μ-loop
-hex-octet-requires c κs = search needs
+hex-octet-requires c κs = tt
 
 add-i : tie.Need-add-i Inv-loop μ-loop
-add-i c = search needs
+add-i c = omega arith
 
 loop-less : tie.Need-loop-less Inv-loop μ-loop
-loop-less c = search needs
+loop-less c = omega arith
 
 loop-again : tie.Need-loop-again Inv-loop μ-loop
-loop-again c = search needs
+loop-again c = omega arith
 
 returns-2 : tie.Need-returns-2 Inv-loop μ-loop
-returns-2 c = search needs
+returns-2 c = tt
 
 pub octets-field-spec : {M : Type 1} → statement M
 octets-field-spec =

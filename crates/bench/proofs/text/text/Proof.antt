@@ -1,7 +1,7 @@
 -- `text` meets its contract.
+use native.Mathlib.Omega.{arith}
 use Prim.Native.Nat.{_-_}
 use lib.ListN.{length}
-use borrow.Author.Needs.{needs}
 use Rattle.bench.proofs.text.text.Statement.{statement}
 use Rattle.bench.proofs.text.text.Tie as tie
 
@@ -12,25 +12,25 @@ abbrev μ-loop : tie.MeasureT-loop
 μ-loop out₀ at t end₀ i₀ out end i = length t - i
 
 loop-holds : tie.Need-loop-holds Inv-loop μ-loop
-loop-holds c = search needs
+loop-holds c = omega arith
 
 shared-slice-read-octet : tie.Need-shared-slice-read-octet Inv-loop μ-loop
-shared-slice-read-octet c = search needs
+shared-slice-read-octet c = omega arith
 
 octet-requires : tie.Need-octet-requires Inv-loop μ-loop
-octet-requires c κs = search needs
+octet-requires c κs = tt
 
 add-i : tie.Need-add-i Inv-loop μ-loop
-add-i c = search needs
+add-i c = omega arith
 
 loop-less : tie.Need-loop-less Inv-loop μ-loop
-loop-less c = search needs
+loop-less c = omega arith
 
 loop-again : tie.Need-loop-again Inv-loop μ-loop
-loop-again c = search needs
+loop-again c = omega arith
 
 returns : tie.Need-returns Inv-loop μ-loop
-returns c = search needs
+returns c = tt
 
 pub text-spec : {M : Type 1} → statement M
 text-spec =

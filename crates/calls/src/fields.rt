@@ -1,7 +1,18 @@
 // The fields of a message as words of a line.
-use crate::words::{identity, signed16, signed64, signed8, unsigned16, unsigned32, unsigned64, unsigned8, NOWHERE};
+use crate::words::NOWHERE;
+use crate::words::identity;
+use crate::words::signed8;
+use crate::words::signed16;
+use crate::words::signed64;
+use crate::words::unsigned8;
+use crate::words::unsigned16;
+use crate::words::unsigned32;
+use crate::words::unsigned64;
 use layout::kinds;
-use layout::message::{Body, Header, Offer, Port};
+use layout::message::Body;
+use layout::message::Header;
+use layout::message::Offer;
+use layout::message::Port;
 use numbers::stamp::Stamp;
 
 pub struct PortWords {
@@ -32,13 +43,25 @@ pub struct BodyWords {
 pub(crate) fn port_words(s: &[u8], at: usize) -> PortWords {
     let clock = identity(s, at);
     let port = unsigned16(s, clock.next);
-    PortWords { port: Port { clock: clock.value, number: port.value }, next: port.next }
+    PortWords {
+        port: Port {
+            clock: clock.value,
+            number: port.value,
+        },
+        next: port.next,
+    }
 }
 
 pub(crate) fn stamp_words(s: &[u8], at: usize) -> StampWords {
     let seconds = unsigned64(s, at);
     let nanos = unsigned32(s, seconds.next);
-    StampWords { stamp: Stamp { seconds: seconds.value, nanoseconds: nanos.value }, next: nanos.next }
+    StampWords {
+        stamp: Stamp {
+            seconds: seconds.value,
+            nanoseconds: nanos.value,
+        },
+        next: nanos.next,
+    }
 }
 
 pub(crate) fn header_words(s: &[u8], at: usize) -> HeaderWords {
@@ -67,7 +90,10 @@ pub(crate) fn header_words(s: &[u8], at: usize) -> HeaderWords {
         control: control.value,
         interval: interval.value,
     };
-    HeaderWords { header, next: interval.next }
+    HeaderWords {
+        header,
+        next: interval.next,
+    }
 }
 
 fn offer_words(s: &[u8], at: usize) -> OfferWords {
@@ -93,25 +119,46 @@ fn offer_words(s: &[u8], at: usize) -> OfferWords {
         steps: steps.value,
         time: source.value,
     };
-    OfferWords { offer, next: source.next }
+    OfferWords {
+        offer,
+        next: source.next,
+    }
 }
 
 // What stands behind the timestamp hangs on the kind: of any other there is none.
 pub(crate) fn body_words(s: &[u8], at: usize, kind: u8, stamp: Stamp) -> BodyWords {
     match kind {
-        kinds::Sync::KIND => BodyWords { body: Body::Sync(stamp), next: at },
-        kinds::DelayReq::KIND => BodyWords { body: Body::DelayReq(stamp), next: at },
-        kinds::FollowUp::KIND => BodyWords { body: Body::FollowUp(stamp), next: at },
+        kinds::Sync::KIND => BodyWords {
+            body: Body::Sync(stamp),
+            next: at,
+        },
+        kinds::DelayReq::KIND => BodyWords {
+            body: Body::DelayReq(stamp),
+            next: at,
+        },
+        kinds::FollowUp::KIND => BodyWords {
+            body: Body::FollowUp(stamp),
+            next: at,
+        },
         kinds::DelayResp::KIND => {
             let words = port_words(s, at);
             let requesting = words.port;
-            BodyWords { body: Body::DelayResp(stamp, requesting), next: words.next }
+            BodyWords {
+                body: Body::DelayResp(stamp, requesting),
+                next: words.next,
+            }
         }
         kinds::Announce::KIND => {
             let words = offer_words(s, at);
             let offer = words.offer;
-            BodyWords { body: Body::Announce(stamp, offer), next: words.next }
+            BodyWords {
+                body: Body::Announce(stamp, offer),
+                next: words.next,
+            }
         }
-        _ => BodyWords { body: Body::Sync(stamp), next: NOWHERE },
+        _ => BodyWords {
+            body: Body::Sync(stamp),
+            next: NOWHERE,
+        },
     }
 }

@@ -1,8 +1,23 @@
-// A line becomes a call: one function for each call word, which reads the words behind it and hands typed values on.
-use crate::fields::{body_words, header_words, stamp_words};
-use crate::units::{unit_call, UnitCall};
-use crate::words::{begins, number, octets_at, unsigned8};
+// A line of the bench becomes a call: one function for each call word, which reads the words behind it and hands typed values on.
+mod fields;
+pub mod units;
+mod words;
+
+use fields::body_words;
+use fields::header_words;
+use fields::stamp_words;
 use layout::message::Message;
+use units::UnitCall;
+use units::unit_call;
+use words::begins;
+use words::number;
+use words::octets_at;
+use words::unsigned8;
+ghost use Prim.Native.Nat.{_≤_};
+ghost use Rattle.calls.specs.Held.{heldBy};
+
+// Where the octets of a call are put: more than the longest line can have.
+pub type Store = [u8; 131072];
 
 // The octets of a call stand in front of the buffer that they were read into, as many as it says.
 pub enum Call {
@@ -13,7 +28,9 @@ pub enum Call {
     Unit(UnitCall),
 }
 
-fn lend(s: &[u8], at: usize) -> Call {
+fn lend(s: &[u8], at: usize) -> Call
+    ensures { λ r. ⌜ heldBy r ≤ 131072 ⌝ }
+{
     let count = number(s, at, 8);
     if count.next == s.len() {
         return Call::Lend(count.value as u8);
@@ -21,7 +38,9 @@ fn lend(s: &[u8], at: usize) -> Call {
     Call::Bad
 }
 
-fn read(s: &[u8], at: usize, octets: &mut [u8]) -> Call {
+fn read(s: &[u8], at: usize, octets: &mut Store) -> Call
+    ensures { λ r. ⌜ heldBy r ≤ 131072 ⌝ }
+{
     let message = octets_at(s, at, octets);
     if message.next == s.len() {
         return Call::Read(message.count);
@@ -29,7 +48,9 @@ fn read(s: &[u8], at: usize, octets: &mut [u8]) -> Call {
     Call::Bad
 }
 
-fn write(s: &[u8], at: usize, octets: &mut [u8]) -> Call {
+fn write(s: &[u8], at: usize, octets: &mut Store) -> Call
+    ensures { λ r. ⌜ heldBy r ≤ 131072 ⌝ }
+{
     let kind = unsigned8(s, at);
     let head = header_words(s, kind.next);
     let time = stamp_words(s, head.next);
@@ -45,8 +66,10 @@ fn write(s: &[u8], at: usize, octets: &mut [u8]) -> Call {
     Call::Bad
 }
 
-// The call that the line is.
-pub(crate) fn call_of(s: &[u8], octets: &mut [u8]) -> Call {
+// The call that the line is; the octets that it names stand within the store.
+pub fn call_of(s: &[u8], octets: &mut Store) -> Call
+    ensures { λ r. ⌜ heldBy r ≤ 131072 ⌝ }
+{
     if begins(s, b"lend") {
         return lend(s, 4);
     }

@@ -1,7 +1,7 @@
 -- `identity` meets its contract.
-use borrow.Author.Needs.{needs}
-use Rattle.bench.proofs.words.identity.Statement.{statement}
-use Rattle.bench.proofs.words.identity.Tie as tie
+use native.Mathlib.Omega.{arith}
+use Rattle.calls.proofs.words.identity.Statement.{statement}
+use Rattle.calls.proofs.words.identity.Tie as tie
 
 abbrev Inv-loop : tie.InvT-loop
 Inv-loop s at value₀ i₀ left₀ value i left = Unit
@@ -10,43 +10,43 @@ abbrev μ-loop : tie.MeasureT-loop
 μ-loop s at value₀ i₀ left₀ value i left = left
 
 gap-requires : tie.Need-gap-requires Inv-loop μ-loop
-gap-requires c κs = search needs
+gap-requires c κs = tt
 
 loop-holds : tie.Need-loop-holds Inv-loop μ-loop
-loop-holds c = search needs
+loop-holds c = omega arith
 
 returns : tie.Need-returns Inv-loop μ-loop
-returns c = search needs
+returns c = tt
 
 shared-slice-read-lower : tie.Need-shared-slice-read-lower Inv-loop μ-loop
-shared-slice-read-lower c = search needs
+shared-slice-read-lower c = omega arith
 
 lower-requires : tie.Need-lower-requires Inv-loop μ-loop
-lower-requires c κs = search needs
+lower-requires c κs = tt
 
 nibble-requires : tie.Need-nibble-requires Inv-loop μ-loop
-nibble-requires c κs = search needs
+nibble-requires c κs = tt
 
 returns-2 : tie.Need-returns-2 Inv-loop μ-loop
-returns-2 c = search needs
+returns-2 c = tt
 
 wide-requires : tie.Need-wide-requires Inv-loop μ-loop
-wide-requires c κs = search needs
+wide-requires c κs = tt
 
 add-i : tie.Need-add-i Inv-loop μ-loop
-add-i c = search needs
+add-i c = omega arith
 
 sub-left : tie.Need-sub-left Inv-loop μ-loop
-sub-left c = search needs
+sub-left c = omega arith
 
 loop-less : tie.Need-loop-less Inv-loop μ-loop
-loop-less c = search needs
+loop-less c = omega arith
 
 loop-again : tie.Need-loop-again Inv-loop μ-loop
-loop-again c = search needs
+loop-again c = omega arith
 
 returns-3 : tie.Need-returns-3 Inv-loop μ-loop
-returns-3 c = search needs
+returns-3 c = tt
 
 pub identity-spec : {M : Type 1} → statement M
 identity-spec =

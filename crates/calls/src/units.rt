@@ -1,6 +1,16 @@
 // The calls of the unit: one function for each call word, which reads the words behind it and hands typed values on.
-use crate::fields::{port_words, stamp_words};
-use crate::words::{begins, number, octets_at, signed64, unsigned16, unsigned64, unsigned8};
+ghost use Prim.Native.Nat.{_≤_};
+ghost use Rattle.calls.specs.Held.{heldByUnit};
+use crate::Store;
+use crate::fields::port_words;
+use crate::fields::stamp_words;
+use crate::words::begins;
+use crate::words::number;
+use crate::words::octets_at;
+use crate::words::signed64;
+use crate::words::unsigned8;
+use crate::words::unsigned16;
+use crate::words::unsigned64;
 use layout::message::Port;
 use numbers::stamp::Stamp;
 
@@ -60,10 +70,15 @@ fn watch_words(s: &[u8], at: usize) -> WatchWords {
         spike: spike.value,
         jump: jump.value,
     };
-    WatchWords { watch, next: jump.next }
+    WatchWords {
+        watch,
+        next: jump.next,
+    }
 }
 
-fn unit(s: &[u8], at: usize) -> UnitCall {
+fn unit(s: &[u8], at: usize) -> UnitCall
+    ensures { λ r. ⌜ heldByUnit r ≤ 131072 ⌝ }
+{
     let domain = unsigned8(s, at);
     let own = port_words(s, domain.next);
     let announce = signed64(s, own.next);
@@ -89,7 +104,9 @@ fn unit(s: &[u8], at: usize) -> UnitCall {
     UnitCall::None
 }
 
-fn receive(s: &[u8], at: usize, octets: &mut [u8]) -> UnitCall {
+fn receive(s: &[u8], at: usize, octets: &mut Store) -> UnitCall
+    ensures { λ r. ⌜ heldByUnit r ≤ 131072 ⌝ }
+{
     let now = unsigned64(s, at);
     let words = stamp_words(s, now.next);
     let message = octets_at(s, words.next, octets);
@@ -100,7 +117,9 @@ fn receive(s: &[u8], at: usize, octets: &mut [u8]) -> UnitCall {
     UnitCall::None
 }
 
-fn request(s: &[u8], at: usize) -> UnitCall {
+fn request(s: &[u8], at: usize) -> UnitCall
+    ensures { λ r. ⌜ heldByUnit r ≤ 131072 ⌝ }
+{
     let now = unsigned64(s, at);
     let length = number(s, now.next, 2000);
     if length.next == s.len() {
@@ -109,7 +128,9 @@ fn request(s: &[u8], at: usize) -> UnitCall {
     UnitCall::None
 }
 
-fn sent(s: &[u8], at: usize) -> UnitCall {
+fn sent(s: &[u8], at: usize) -> UnitCall
+    ensures { λ r. ⌜ heldByUnit r ≤ 131072 ⌝ }
+{
     let now = unsigned64(s, at);
     let sequence = unsigned16(s, now.next);
     let words = stamp_words(s, sequence.next);
@@ -120,7 +141,9 @@ fn sent(s: &[u8], at: usize) -> UnitCall {
     UnitCall::None
 }
 
-fn time(s: &[u8], at: usize) -> UnitCall {
+fn time(s: &[u8], at: usize) -> UnitCall
+    ensures { λ r. ⌜ heldByUnit r ≤ 131072 ⌝ }
+{
     let now = unsigned64(s, at);
     if now.next == s.len() {
         return UnitCall::Time(now.value);
@@ -128,7 +151,9 @@ fn time(s: &[u8], at: usize) -> UnitCall {
     UnitCall::None
 }
 
-fn tick(s: &[u8], at: usize) -> UnitCall {
+fn tick(s: &[u8], at: usize) -> UnitCall
+    ensures { λ r. ⌜ heldByUnit r ≤ 131072 ⌝ }
+{
     let reference = signed64(s, at);
     let clock = signed64(s, reference.next);
     if clock.next == s.len() {
@@ -138,12 +163,16 @@ fn tick(s: &[u8], at: usize) -> UnitCall {
 }
 
 // A call with no words.
-fn alone(s: &[u8], at: usize, call: UnitCall) -> UnitCall {
+fn alone(s: &[u8], at: usize, call: UnitCall) -> UnitCall
+    ensures { λ r. ⌜ heldByUnit r ≤ heldByUnit call ⌝ }
+{
     if at == s.len() { call } else { UnitCall::None }
 }
 
 // The call that the line is, or none.
-pub(crate) fn unit_call(s: &[u8], octets: &mut [u8]) -> UnitCall {
+pub(crate) fn unit_call(s: &[u8], octets: &mut Store) -> UnitCall
+    ensures { λ r. ⌜ heldByUnit r ≤ 131072 ⌝ }
+{
     if begins(s, b"unit") {
         return unit(s, 4);
     }
@@ -159,7 +188,9 @@ pub(crate) fn unit_call(s: &[u8], octets: &mut [u8]) -> UnitCall {
     short_call(s)
 }
 
-fn short_call(s: &[u8]) -> UnitCall {
+fn short_call(s: &[u8]) -> UnitCall
+    ensures { λ r. ⌜ heldByUnit r ≤ 131072 ⌝ }
+{
     if begins(s, b"time") {
         return time(s, 4);
     }

@@ -2,6 +2,7 @@
 //
 // A word is read from the one space before it, and answers its value and where it ends. A word that is none ends NOWHERE, and so
 // does every word that is read from there: a line is well formed where its last word ends at the line's end.
+use crate::Store;
 ghost use Prim.Native.Nat.{_≤_, _<_, _^_};
 
 pub const NOWHERE: usize = usize::MAX;
@@ -78,16 +79,25 @@ fn digits(s: &[u8], from: usize, most: u64) -> Word64
             break;
         }
         if most < d {
-            return Word64 { value: 0, next: NOWHERE };
+            return Word64 {
+                value: 0,
+                next: NOWHERE,
+            };
         }
         if (most - d) / 10 < value {
-            return Word64 { value: 0, next: NOWHERE };
+            return Word64 {
+                value: 0,
+                next: NOWHERE,
+            };
         }
         value = value * 10 + d;
         i += 1;
     }
     if i == from {
-        return Word64 { value: 0, next: NOWHERE };
+        return Word64 {
+            value: 0,
+            next: NOWHERE,
+        };
     }
     Word64 { value, next: i }
 }
@@ -101,17 +111,26 @@ pub(crate) fn number(s: &[u8], at: usize, most: u64) -> Word64
 
 pub(crate) fn unsigned8(s: &[u8], at: usize) -> Word8 {
     let w = number(s, at, 255);
-    Word8 { value: w.value as u8, next: w.next }
+    Word8 {
+        value: w.value as u8,
+        next: w.next,
+    }
 }
 
 pub(crate) fn unsigned16(s: &[u8], at: usize) -> Word16 {
     let w = number(s, at, 65535);
-    Word16 { value: w.value as u16, next: w.next }
+    Word16 {
+        value: w.value as u16,
+        next: w.next,
+    }
 }
 
 pub(crate) fn unsigned32(s: &[u8], at: usize) -> Word32 {
     let w = number(s, at, 4294967295);
-    Word32 { value: w.value as u32, next: w.next }
+    Word32 {
+        value: w.value as u32,
+        next: w.next,
+    }
 }
 
 pub(crate) fn unsigned64(s: &[u8], at: usize) -> Word64 {
@@ -126,7 +145,10 @@ fn signed(s: &[u8], at: usize, most: u64) -> Word64
     if from < s.len() {
         if s[from] == b'-' {
             let w = digits(s, from + 1, most + 1);
-            return Word64 { value: negated(w.value), next: w.next };
+            return Word64 {
+                value: negated(w.value),
+                next: w.next,
+            };
         }
     }
     digits(s, from, most)
@@ -139,17 +161,26 @@ fn negated(n: u64) -> u64 {
 
 pub(crate) fn signed8(s: &[u8], at: usize) -> Int8 {
     let w = signed(s, at, 127);
-    Int8 { value: octets::signed8((w.value % 256) as u8), next: w.next }
+    Int8 {
+        value: octets::signed8((w.value % 256) as u8),
+        next: w.next,
+    }
 }
 
 pub(crate) fn signed16(s: &[u8], at: usize) -> Int16 {
     let w = signed(s, at, 32767);
-    Int16 { value: octets::signed16((w.value % 65536) as u16), next: w.next }
+    Int16 {
+        value: octets::signed16((w.value % 65536) as u16),
+        next: w.next,
+    }
 }
 
 pub(crate) fn signed64(s: &[u8], at: usize) -> Int64 {
     let w = signed(s, at, 9223372036854775807);
-    Int64 { value: octets::signed64(w.value), next: w.next }
+    Int64 {
+        value: octets::signed64(w.value),
+        next: w.next,
+    }
 }
 
 // A hex digit's value, in lower case, or 16.
@@ -187,11 +218,17 @@ pub(crate) fn identity(s: &[u8], at: usize) -> Word64 {
     let mut left: usize = 16;
     while 0 < left {
         if s.len() <= i {
-            return Word64 { value: 0, next: NOWHERE };
+            return Word64 {
+                value: 0,
+                next: NOWHERE,
+            };
         }
         let d = nibble(lower(s[i]));
         if 15 < d {
-            return Word64 { value: 0, next: NOWHERE };
+            return Word64 {
+                value: 0,
+                next: NOWHERE,
+            };
         }
         value = (value << 4) | wide(d);
         i += 1;
@@ -213,23 +250,32 @@ fn pair(high: u8, low: u8) -> u16 {
     (h as u16) * 16 + (l as u16)
 }
 
+// Where the octets of a line are put: a line of 262,144 has at most half as many.
 pub struct Octets {
     pub count: usize,
     pub next: usize,
 }
 
 // Octets in lower-case hex, put in front of `into`; `-` stands for none.
-pub(crate) fn octets_at(s: &[u8], at: usize, into: &mut [u8]) -> Octets {
+pub(crate) fn octets_at(s: &[u8], at: usize, into: &mut Store) -> Octets
+    ensures { λ r. ⌜ r .count ≤ 131072 ⌝ }
+{
     let from = gap(s, at);
     if s.len() <= from {
-        return Octets { count: 0, next: NOWHERE };
+        return Octets {
+            count: 0,
+            next: NOWHERE,
+        };
     }
     if s[from] == b'-' {
-        return Octets { count: 0, next: from + 1 };
+        return Octets {
+            count: 0,
+            next: from + 1,
+        };
     }
     let mut i = from;
     let mut count = 0;
-    while count < into.len() {
+    while count < 131072 {
         if s.len() - i < 2 {
             break;
         }
@@ -242,7 +288,10 @@ pub(crate) fn octets_at(s: &[u8], at: usize, into: &mut [u8]) -> Octets {
         i += 2;
     }
     if count == 0 {
-        return Octets { count: 0, next: NOWHERE };
+        return Octets {
+            count: 0,
+            next: NOWHERE,
+        };
     }
     Octets { count, next: i }
 }

@@ -1,6 +1,7 @@
 -- `gather` meets its contract.
 use Prim.Native.Nat.{_-_, _≤_}
 use mathlib.Core.Path.{_≡_}
+use lib.ListN.{length as List·length}
 use borrow.Author.Needs.{needs}
 use Rattle.bench.proofs.gather.Statement.{statement}
 use Rattle.bench.proofs.gather.Tie as tie

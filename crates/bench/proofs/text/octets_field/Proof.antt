@@ -1,6 +1,7 @@
 -- `octets_field` meets its contract.
 use native.Mathlib.Omega.{arith}
 use Prim.Native.Nat.{_-_}
+use mathlib.Core.Path.{_≡_}
 use lib.ListN.{length}
 use Rattle.bench.proofs.text.octets_field.Statement.{statement}
 use Rattle.bench.proofs.text.octets_field.Tie as tie

@@ -1,6 +1,7 @@
 -- `text` meets its contract.
 use native.Mathlib.Omega.{arith}
 use Prim.Native.Nat.{_-_}
+use mathlib.Core.Path.{_≡_}
 use lib.ListN.{length}
 use Rattle.bench.proofs.text.text.Statement.{statement}
 use Rattle.bench.proofs.text.text.Tie as tie

@@ -1,0 +1,122 @@
+-- The demands of the card, each as a theorem: a reader opens this file first. `stepOf c call` is the answer to a call and the card after it. It is
+-- the promise of `Card::step`, which asks nothing of its caller and so answers every call in every state. specs/Story.antt tells the past of a list
+-- of calls, without the unit's memory.
+use mathlib.Core.Path.{_≡_, refl, sym, _∙_}
+use mathlib.Core.Bool.{true, false}
+use mathlib.Core.List.{List, reverse}
+use Prim.Native.Nat.{ℕ, _≤_, _%_, _^_}
+use native.Mathlib.Omega.{arith}
+use lib.IntN.{natAbs}
+use lib.ListN.{length}
+use Rattle.numbers.specs.Integers.{up}
+use Rattle.numbers.specs.declared.refusal.Refusal.the-variants.{NotReady}
+use Rattle.masters.specs.declared.admission.Verdict.{Verdict}
+use Rattle.masters.specs.declared.admission.Verdict.the-variants.{Clear, Barred}
+use Rattle.masters.specs.Admitting.{firstOf}
+use Rattle.exchange.specs.Table.{requested, table}
+use Rattle.exchange.specs.Events.{told, takes as stampTakes}
+use Rattle.wire.specs.Frames.{requestOf}
+use Rattle.watch.specs.declared.totals.Line.{Line as DriftLine}
+use Rattle.watch.specs.declared.Drift.{Drift}
+use Rattle.watch.specs.declared.Drift.the-variants as drift
+use Rattle.watch.specs.Totals.{pointsOf, lineThrough}
+use Rattle.watch.specs.Rules.{due, lineSince}
+use Rattle.watch.proofs.Lines.{Right, drift-right}
+use Rattle.watch.proofs.Story.{good-line}
+use Rattle.card.specs.declared.settings.Settings.{Settings}
+use Rattle.card.specs.declared.settings.Given.{Given}
+use Rattle.card.specs.declared.settings.Set.the-variants.{Accepted}
+use Rattle.card.specs.declared.Card.{Card}
+use Rattle.card.specs.declared.calls.Call.{Call}
+use Rattle.card.specs.declared.calls.Call.the-variants.{Request, Line}
+use Rattle.card.specs.declared.calls.Answer.the-variants as answers
+use Rattle.card.specs.declared.calls.Stepped.{Stepped}
+use Rattle.card.specs.Settings.{settingsOf}
+use Rattle.card.specs.Wipe.{freshRun, freshCard}
+use Rattle.card.specs.Effects.{Effect, keeps, goes, takes, wipes, staysOf, ranOf, applied}
+use Rattle.card.specs.Refusing.{isRefusal}
+use Rattle.card.specs.Measuring.{requestBars, unless, meaningOf, exchanged, asking, requests}
+use Rattle.card.specs.Ticking.{lineBy}
+use Rattle.card.specs.Calls.{effectOn, stepOf}
+use Rattle.card.specs.Frame.{leftIn, frameAfter}
+use Rattle.card.specs.Story.{isWipe, past, answerAfter, taken, window, wipeCount}
+use Rattle.card.proofs.Ranges.{accepted-holdoff}
+use Rattle.card.proofs.Refusals.{never, refused-same}
+use Rattle.card.proofs.Simulation.{played, all-told, all-answers}
+
+-- ---- demand 1: a refusal leaves the card as it was, ..
+pub refusal-keeps : (c : Card) (call : Call) → isRefusal (stepOf c call .answer) ≡ true → stepOf c call .card ≡ c
+refusal-keeps c call e = refused-same c call e
+
+-- .. and the lent frame
+frame-by : (c : Card) (now : ℕ) (v : Verdict) (f : List ℕ)
+    → isRefusal (applied c (unless v (exchanged (c .settings) (asking now (staysOf c)) (ranOf c) (told (c .domain .run .exchange) (requested (c .domain .sequence))))) .answer) ≡ true
+    → leftIn v (requestOf (c .settings .domain) (c .settings .own) (c .domain .sequence)) f ≡ f
+unfolding told table stampTakes meaningOf
+frame-by c now Clear f e = absurd (never e)
+frame-by c now (Barred n) f e = refl
+
+pub refusal-keeps-frame : (c : Card) (now : ℕ) (f : List ℕ) → isRefusal (stepOf c (Request now (length f)) .answer) ≡ true → frameAfter c now f ≡ f
+unfolding requests
+refusal-keeps-frame c now f e = frame-by c now (firstOf (requestBars (staysOf c) now (length f))) f e
+
+-- ---- any two permitted answers are equal, with the cards after them
+pub one-answer : (c : Card) (call : Call) (a b : Stepped) → a ≡ stepOf c call → b ≡ stepOf c call → a ≡ b
+one-answer c call a b p q = p ∙ sym q
+
+-- ---- nothing stays behind: after a wipe, exchange, servo and watch are those of a fresh card
+fresh-after : (c : Card) (e : Effect) → isWipe e ≡ true → applied c e .card .domain .run ≡ freshRun (c .settings)
+fresh-after c (keeps a) h = absurd (never h)
+fresh-after c (goes a k r) h = absurd (never h)
+fresh-after c (takes origin x) h = absurd (never h)
+fresh-after c (wipes a k) h = refl
+
+pub nothing-stays : (c : Card) (call : Call) → isWipe (effectOn c call) ≡ true → stepOf c call .card .domain .run ≡ freshCard (c .settings) .domain .run
+nothing-stays c call h = fresh-after c (effectOn c call) h
+
+-- ---- from a fresh card, its settings accepted, after any list of calls, the oldest first, refused ones among them
+module _ (g : Given) (s : Settings) (set : settingsOf g ≡ Accepted s) (calls : List Call) where
+  -- the card as these calls leave it, and the calls as the story reads them
+  abbrev now : Card
+  now = played (freshCard s) calls
+
+  abbrev before : List Call
+  before = reverse calls
+
+  -- every answer is the story's
+  pub answers-told : (call : Call) → stepOf now call .answer ≡ answerAfter s before call
+  answers-told call = all-answers s (accepted-holdoff g s set) calls call
+
+  -- demand 2: what the card holds is what the rules make of the calls, and the output never passes the limit
+  pub stays-told : staysOf now ≡ past s before .stays
+  stays-told = all-told s (accepted-holdoff g s set) calls .stays
+
+  pub ran-told : ranOf now ≡ past s before .ran
+  ran-told = all-told s (accepted-holdoff g s set) calls .ran
+
+  pub output-limited : natAbs (now .domain .run .servo .output .0) ≤ up (s .limit .0)
+  output-limited = let t = all-told s (accepted-holdoff g s set) calls in rw (sym (t .ran)) at (t .within)
+
+  -- demand 3: a line is given exactly when the samples taken since the last wipe reach the holdoff and the valid ones among the last W of them
+  -- the minimum; it is the line through those, with the number of wipes
+  pub line-when-due : due (s .watch) (length (taken s before)) (window s before) ≡ true
+      → stepOf now Line .answer ≡ answers.Line (lineThrough (pointsOf (window s before))) (wipeCount s before % 2 ^ 32)
+  unfolding answerAfter
+  line-when-due e = answers-told Line ∙ rw e
+
+  pub line-only-when-due : due (s .watch) (length (taken s before)) (window s before) ≡ false → stepOf now Line .answer ≡ answers.Refused NotReady
+  unfolding answerAfter
+  line-only-when-due e = answers-told Line ∙ rw e
+
+  -- the line given is theirs: n counts the valid ones, any other line with fractions for level and slope has a larger sum of squares, and no f64 is
+  -- nearer to the slope in ppm. The wipe count is that of the calls
+  line-parts : (d : Drift) (m n : ℕ) (q : DriftLine) → lineBy d m ≡ answers.Line q n → (d ≡ drift.Line q) × (m ≡ n)
+  line-parts (drift.Refused r) m n q e = let z : _≡_ {A = ℕ} 0 1 = cc in absurd (omega arith)
+  line-parts (drift.Line l) m n q e = (cc, cc)
+
+  pub line-is-theirs : (q : DriftLine) (n : ℕ) → stepOf now Line .answer ≡ answers.Line q n → Right (window s before) q × (n ≡ wipeCount s before % 2 ^ 32)
+  unfolding answerAfter
+  line-is-theirs q n e =
+      let t = all-told s (accepted-holdoff g s set) calls in
+      let f = line-parts (lineSince (s .watch) (past s before .since)) (wipeCount s before % 2 ^ 32) n q (sym (answers-told Line) ∙ e) in
+      (drift-right (t .watch) q (good-line (t .watch) (accepted-holdoff g s set) ∙ f .0), sym (f .1))

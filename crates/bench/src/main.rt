@@ -1,13 +1,10 @@
 // The bench: reads a list of calls on standard input and writes one line of answer to each.
-mod answers;
-mod text;
-
-use answers::Desk;
-use answers::answer;
 use calls::call_of;
+use desk::Desk;
 use libc::STDIN_FILENO;
 use text::Out;
 use text::flush;
+use text::text;
 ghost use Prim.Native.Nat.{_<_};
 ghost use lib.ListN.{length as List·length};
 
@@ -31,17 +28,17 @@ fn passed_over(line: &[u8], length: usize) -> bool {
     false
 }
 
-fn line_end(desk: Desk, line: &[u8], length: usize, out: &mut Out) -> Desk {
+// The line has its answer, and the next one begins.
+fn line_end(mut desk: Desk, line: &[u8], length: usize, out: &mut Out) -> Desk {
+    desk.length = 0;
     if passed_over(line, length) {
-        return Desk {
-            length: 0,
-            lent: desk.lent,
-            at: desk.at,
-        };
+        return desk;
     }
     let mut octets = [0u8; 131072];
     let call = call_of(whole_line(line, length), &mut octets);
-    answer(desk, call, &octets, out)
+    let mut next = desk.answer(out, call, &octets);
+    next.at = text(out, next.at, b"\n");
+    next
 }
 
 pub struct Gathered {
@@ -94,8 +91,7 @@ fn lines(desk: Desk, block: &[u8], line: &mut [u8], out: &mut Out) -> Desk {
             d.length = g.length;
         }
     }
-    flush(out, d.at);
-    d.at = 0;
+    d.at = flush(out, d.at);
     d
 }
 
@@ -109,11 +105,7 @@ fn turns_left(turns: u64, got: usize) -> u64
 }
 
 fn run(block: &mut [u8], line: &mut [u8], out: &mut Out) {
-    let mut desk = Desk {
-        length: 0,
-        lent: 5,
-        at: 0,
-    };
+    let mut desk = Desk::bare();
     let mut turns = u64::MAX;
     while 0 < turns {
         let n = io::count(libc::read(STDIN_FILENO, block), block);

@@ -11,35 +11,13 @@ use crate::words::signed64;
 use crate::words::unsigned8;
 use crate::words::unsigned16;
 use crate::words::unsigned64;
-use layout::message::Port;
 use numbers::stamp::Stamp;
-
-// The settings of a unit as the line has them, in its order.
-pub struct Settings {
-    pub domain: u8,
-    pub port: Port,
-    pub announce: i64,
-    pub sync: i64,
-    pub kp: i64,
-    pub ki: i64,
-    pub limit: i64,
-    pub watch: Watch,
-}
-
-// Those of the drift watch.
-pub struct Watch {
-    pub window: i64,
-    pub minimum: i64,
-    pub holdoff: i64,
-    pub tolerance: i64,
-    pub spike: i64,
-    pub jump: i64,
-}
+use settings::Given;
 
 // The octets of a Receive stand in front of the buffer that they were read into, as many as it says.
 pub enum UnitCall {
     None,
-    Make(Settings),
+    Make(Given),
     Receive(u64, Stamp, usize),
     Request(u64, usize),
     Sent(u64, u16, Stamp),
@@ -50,32 +28,7 @@ pub enum UnitCall {
     Show,
 }
 
-pub struct WatchWords {
-    pub watch: Watch,
-    pub next: usize,
-}
-
-fn watch_words(s: &[u8], at: usize) -> WatchWords {
-    let window = signed64(s, at);
-    let minimum = signed64(s, window.next);
-    let holdoff = signed64(s, minimum.next);
-    let tolerance = signed64(s, holdoff.next);
-    let spike = signed64(s, tolerance.next);
-    let jump = signed64(s, spike.next);
-    let watch = Watch {
-        window: window.value,
-        minimum: minimum.value,
-        holdoff: holdoff.value,
-        tolerance: tolerance.value,
-        spike: spike.value,
-        jump: jump.value,
-    };
-    WatchWords {
-        watch,
-        next: jump.next,
-    }
-}
-
+// The settings in the line's order.
 fn unit(s: &[u8], at: usize) -> UnitCall
     ensures { λ r. ⌜ heldByUnit r ≤ 131072 ⌝ }
 {
@@ -86,19 +39,28 @@ fn unit(s: &[u8], at: usize) -> UnitCall
     let kp = signed64(s, sync.next);
     let ki = signed64(s, kp.next);
     let limit = signed64(s, ki.next);
-    let last = watch_words(s, limit.next);
-    if last.next == s.len() {
+    let window = signed64(s, limit.next);
+    let minimum = signed64(s, window.next);
+    let holdoff = signed64(s, minimum.next);
+    let tolerance = signed64(s, holdoff.next);
+    let spike = signed64(s, tolerance.next);
+    let jump = signed64(s, spike.next);
+    if jump.next == s.len() {
         let port = own.port;
-        let watch = last.watch;
-        return UnitCall::Make(Settings {
+        return UnitCall::Make(Given {
             domain: domain.value,
-            port,
+            own: port,
             announce: announce.value,
             sync: sync.value,
             kp: kp.value,
             ki: ki.value,
             limit: limit.value,
-            watch,
+            window: window.value,
+            minimum: minimum.value,
+            holdoff: holdoff.value,
+            tolerance: tolerance.value,
+            spike: spike.value,
+            jump: jump.value,
         });
     }
     UnitCall::None

@@ -10,6 +10,7 @@ use lib.IntN.{natAbs}
 use lib.ListN.{length}
 use Rattle.numbers.specs.Integers.{up}
 use Rattle.numbers.specs.declared.refusal.Refusal.the-variants.{NotReady}
+use Rattle.masters.specs.declared.table.Table.{Table}
 use Rattle.masters.specs.declared.admission.Verdict.{Verdict}
 use Rattle.masters.specs.declared.admission.Verdict.the-variants.{Clear, Barred}
 use Rattle.masters.specs.Admitting.{firstOf}
@@ -23,25 +24,25 @@ use Rattle.watch.specs.Totals.{pointsOf, lineThrough}
 use Rattle.watch.specs.Rules.{due, lineSince}
 use Rattle.watch.proofs.Lines.{Right, drift-right}
 use Rattle.watch.proofs.Story.{good-line}
-use Rattle.card.specs.declared.settings.Settings.{Settings}
-use Rattle.card.specs.declared.settings.Given.{Given}
-use Rattle.card.specs.declared.settings.Set.the-variants.{Accepted}
+use Rattle.settings.specs.declared.Settings.{Settings}
+use Rattle.settings.specs.declared.Given.{Given}
+use Rattle.settings.specs.declared.Set.the-variants.{Accepted}
+use Rattle.unit.specs.declared.calls.Call.{Call}
+use Rattle.unit.specs.declared.calls.Call.the-variants.{Request, Reset, Line}
+use Rattle.unit.specs.declared.calls.Answer.the-variants as answers
+use Rattle.settings.specs.Ranges.{settingsOf}
+use Rattle.unit.specs.Effects.{Effect, keeps, goes, takes, wipes, staysOf, ranOf}
+use Rattle.unit.specs.Refusing.{isRefusal}
+use Rattle.unit.specs.Measuring.{requestBars, unless, meaningOf, exchanged, asking, requests}
+use Rattle.unit.specs.Ticking.{lineBy}
+use Rattle.unit.specs.Frame.{leftIn, frameAfter}
+use Rattle.settings.proofs.Narrowing.{accepted-holdoff}
 use Rattle.card.specs.declared.Card.{Card}
-use Rattle.card.specs.declared.calls.Call.{Call}
-use Rattle.card.specs.declared.calls.Call.the-variants.{Request, Line}
-use Rattle.card.specs.declared.calls.Answer.the-variants as answers
-use Rattle.card.specs.declared.calls.Stepped.{Stepped}
-use Rattle.card.specs.Settings.{settingsOf}
-use Rattle.card.specs.Wipe.{freshRun, freshCard}
-use Rattle.card.specs.Effects.{Effect, keeps, goes, takes, wipes, staysOf, ranOf, applied}
-use Rattle.card.specs.Refusing.{isRefusal}
-use Rattle.card.specs.Measuring.{requestBars, unless, meaningOf, exchanged, asking, requests}
-use Rattle.card.specs.Ticking.{lineBy}
-use Rattle.card.specs.Calls.{effectOn, stepOf}
-use Rattle.card.specs.Frame.{leftIn, frameAfter}
+use Rattle.card.specs.declared.Stepped.{Stepped}
+use Rattle.card.specs.Calls.{freshCard, applied, effectOn, tableOn, stepOf}
 use Rattle.card.specs.Story.{isWipe, past, answerAfter, taken, window, wipeCount}
-use Rattle.card.proofs.Ranges.{accepted-holdoff}
 use Rattle.card.proofs.Refusals.{never, refused-same}
+use Rattle.card.proofs.Faults.{faulty-lasts}
 use Rattle.card.proofs.Simulation.{played, all-told, all-answers}
 
 -- ---- demand 1: a refusal leaves the card as it was, ..
@@ -50,29 +51,41 @@ refusal-keeps c call e = refused-same c call e
 
 -- .. and the lent frame
 frame-by : (c : Card) (now : ℕ) (v : Verdict) (f : List ℕ)
-    → isRefusal (applied c (unless v (exchanged (c .settings) (asking now (staysOf c)) (ranOf c) (told (c .domain .run .exchange) (requested (c .domain .sequence))))) .answer) ≡ true
-    → leftIn v (requestOf (c .settings .domain) (c .settings .own) (c .domain .sequence)) f ≡ f
+    → isRefusal (applied c (c .table) (unless v (exchanged (c .unit .settings) (asking now (staysOf (c .unit))) (ranOf (c .unit) (c .servo)) (told (c .unit .domain .run .exchange) (requested (c .unit .domain .sequence))))) .answer) ≡ true
+    → leftIn v (requestOf (c .unit .settings .domain) (c .unit .settings .own) (c .unit .domain .sequence)) f ≡ f
 unfolding told table stampTakes meaningOf
 frame-by c now Clear f e = absurd (never e)
 frame-by c now (Barred n) f e = refl
 
-pub refusal-keeps-frame : (c : Card) (now : ℕ) (f : List ℕ) → isRefusal (stepOf c (Request now (length f)) .answer) ≡ true → frameAfter c now f ≡ f
+pub refusal-keeps-frame : (c : Card) (now : ℕ) (f : List ℕ) → isRefusal (stepOf c (Request now (length f)) .answer) ≡ true → frameAfter (c .unit) now f ≡ f
 unfolding requests
-refusal-keeps-frame c now f e = frame-by c now (firstOf (requestBars (staysOf c) now (length f))) f e
+refusal-keeps-frame c now f e = frame-by c now (firstOf (requestBars (staysOf (c .unit)) now (length f))) f e
 
 -- ---- any two permitted answers are equal, with the cards after them
 pub one-answer : (c : Card) (call : Call) (a b : Stepped) → a ≡ stepOf c call → b ≡ stepOf c call → a ≡ b
 one-answer c call a b p q = p ∙ sym q
 
--- ---- nothing stays behind: after a wipe, exchange, servo and watch are those of a fresh card
-fresh-after : (c : Card) (e : Effect) → isWipe e ≡ true → applied c e .card .domain .run ≡ freshRun (c .settings)
-fresh-after c (keeps a) h = absurd (never h)
-fresh-after c (goes a k r) h = absurd (never h)
-fresh-after c (takes origin x) h = absurd (never h)
-fresh-after c (wipes a k) h = refl
+-- ---- nothing stays behind: after a wipe, what ran, the servo and the watch are those of a fresh card
+pub record Emptied (s : Settings) (c : Card) : Type 0 where
+  pub run : c .unit .domain .run ≡ freshCard s .unit .domain .run
+  pub servo : c .servo ≡ freshCard s .servo
+  pub watch : c .watch ≡ freshCard s .watch
 
-pub nothing-stays : (c : Card) (call : Call) → isWipe (effectOn c call) ≡ true → stepOf c call .card .domain .run ≡ freshCard (c .settings) .domain .run
-nothing-stays c call h = fresh-after c (effectOn c call) h
+fresh-after : (c : Card) (t : Table) (e : Effect) → isWipe e ≡ true → Emptied (c .unit .settings) (applied c t e .card)
+fresh-after c t (keeps a) h = absurd (never h)
+fresh-after c t (goes a k r) h = absurd (never h)
+fresh-after c t (takes origin x) h = absurd (never h)
+fresh-after c t (wipes a k) h = record { run = refl; servo = refl; watch = refl }
+
+pub nothing-stays : (c : Card) (call : Call) → isWipe (effectOn c call) ≡ true → Emptied (c .unit .settings) (stepOf c call .card)
+nothing-stays c call h = fresh-after c (tableOn c call) (effectOn c call) h
+
+-- ---- FAULTY ends with a reset, and with nothing else
+pub only-reset-ends-faulty : (c : Card) (call : Call) → c .unit .domain .faulty ≡ true → (call ≡ Reset → ⊥) → stepOf c call .card .unit .domain .faulty ≡ true
+only-reset-ends-faulty c call faulty n = faulty-lasts c faulty call n
+
+pub reset-ends-faulty : (c : Card) → stepOf c Reset .card .unit .domain .faulty ≡ false
+reset-ends-faulty c = refl
 
 -- ---- from a fresh card, its settings accepted, after any list of calls, the oldest first, refused ones among them
 module _ (g : Given) (s : Settings) (set : settingsOf g ≡ Accepted s) (calls : List Call) where
@@ -88,13 +101,16 @@ module _ (g : Given) (s : Settings) (set : settingsOf g ≡ Accepted s) (calls :
   answers-told call = all-answers s (accepted-holdoff g s set) calls call
 
   -- demand 2: what the card holds is what the rules make of the calls, and the output never passes the limit
-  pub stays-told : staysOf now ≡ past s before .stays
+  pub stays-told : staysOf (now .unit) ≡ past s before .stays
   stays-told = all-told s (accepted-holdoff g s set) calls .stays
 
-  pub ran-told : ranOf now ≡ past s before .ran
+  pub table-told : now .table ≡ past s before .table
+  table-told = all-told s (accepted-holdoff g s set) calls .table
+
+  pub ran-told : ranOf (now .unit) (now .servo) ≡ past s before .ran
   ran-told = all-told s (accepted-holdoff g s set) calls .ran
 
-  pub output-limited : natAbs (now .domain .run .servo .output .0) ≤ up (s .limit .0)
+  pub output-limited : natAbs (now .servo .output .0) ≤ up (s .limit .0)
   output-limited = let t = all-told s (accepted-holdoff g s set) calls in rw (sym (t .ran)) at (t .within)
 
   -- demand 3: a line is given exactly when the samples taken since the last wipe reach the holdoff and the valid ones among the last W of them

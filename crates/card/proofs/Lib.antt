@@ -1,9 +1,7 @@
 -- What is proved of the card. Demands comes first for a reader: it states what the others prove.
-mod Bars
-mod Ranges
-mod Pulses
-mod Fair
+pub mod Fairly
 mod Refusals
-mod Simulation
+mod Faults
+pub mod Simulation
 pub mod Demands
 pub mod Numbers

@@ -1,55 +1,111 @@
 -- A refusal leaves the card as it was, whatever its bits are.
 use mathlib.Core.Path.{_≡_, refl, sym, _∙_, subst}
 use mathlib.Core.Bool.{Bool, true, false, cond}
-use Prim.Native.Nat.{ℕ, _+_}
-use native.Mathlib.Omega.{arith}
+use mathlib.Core.List.{_++_}
+use Prim.Native.Nat.{ℕ}
 use lib.Dec.{T}
-use Rattle.numbers.specs.Integers.{up}
+use Rattle.numbers.specs.declared.stamp.Stamp.{Stamp}
+use Rattle.layout.specs.declared.message.Header.{Header}
+use Rattle.layout.specs.declared.message.Body.{Body}
+use Rattle.layout.specs.declared.message.Body.the-variants as bodies
+use Rattle.masters.specs.declared.record.Announce.{Announce}
+use Rattle.masters.specs.declared.table.Table.{Table}
+use Rattle.masters.specs.declared.admission.Admitted.{Admitted}
+use Rattle.masters.specs.declared.admission.Verdict.{Verdict}
+use Rattle.masters.specs.declared.admission.Verdict.the-variants.{Clear, Barred}
+use Rattle.masters.specs.Records.{intervalOf}
+use Rattle.masters.specs.Holding.{sameMasterOf}
+use Rattle.masters.specs.Admitting.{firstOf, entrance, isKnown, seating, acceptedOf, given, admittedOf}
 use Rattle.watch.specs.Watch.{told}
+use Rattle.unit.specs.declared.calls.Call.{Call}
+use Rattle.unit.specs.declared.calls.Call.the-variants.{Receive, Request, Sent, Time, Reset, Tick, Line, Show}
+use Rattle.unit.specs.declared.calls.Answer.the-variants.{Valid, Invalid}
+use Rattle.unit.specs.Effects.{Effect, keeps, goes, takes, wipes, staysOf, ranOf, movedBy}
+use Rattle.unit.specs.Refusing.{isRefusal}
+use Rattle.unit.specs.Choosing.{masterAt, chooses, admits, announces}
+use Rattle.unit.specs.Ticking.{ticks}
+use Rattle.unit.proofs.Pulses.{byTest, every-outcome}
+use Rattle.unit.proofs.Fair.{Fair}
 use Rattle.card.specs.declared.Card.{Card}
-use Rattle.card.specs.declared.calls.Call.{Call}
-use Rattle.card.specs.declared.calls.Call.the-variants.{Receive, Request, Sent, Time, Reset, Tick, Line, Show}
-use Rattle.card.specs.declared.calls.Answer.the-variants.{Valid, Invalid}
-use Rattle.card.specs.Effects.{Effect, keeps, goes, takes, wipes, staysOf, ranOf, applied}
-use Rattle.card.specs.Refusing.{isRefusal}
-use Rattle.card.specs.Choosing.{times}
-use Rattle.card.specs.Measuring.{requests, sends}
-use Rattle.card.specs.Ticking.{ticks}
-use Rattle.card.specs.Calls.{byKind, effectOn}
-use Rattle.card.proofs.Pulses.{every-outcome}
-use Rattle.card.proofs.Fair.{steering, Fair, fair-receive, fair-request, fair-sent, fair-time}
+use Rattle.card.specs.Calls.{byKind, tableBy, applied, effectOn, tableOn}
+use Rattle.card.proofs.Fairly.{most, fair}
 
 pub never : false ≡ true → ⊥
 never e = subst T (sym e) tt
 
--- the card after a refusal
-abbrev Same : Card → Effect → Type 0
-Same c e = isRefusal (applied c e .answer) ≡ true → applied c e .card ≡ c
-
-same-fair : (c : Card) (most : ℕ) (e : Effect) → Fair most e → Same c e
-same-fair c most (keeps a) f h = refl
-same-fair c most (goes a k r) f h = absurd (never (sym (f .0) ∙ h))
-same-fair c most (takes origin x) f h = absurd f
-same-fair c most (wipes a k) f h = absurd (never (sym f ∙ h))
-
-marked : (b : Bool) → isRefusal (cond b Valid Invalid) ≡ true → ⊥
-marked true h = never h
-marked false h = never h
-
 module _ (c : Card) where
-  most : ℕ
-  most = up (c .settings .limit .0) + steering (ranOf c)
+  abbrev Refused : Effect → Type 0
+  Refused e = isRefusal (movedBy (c .unit) (c .servo) e .answer) ≡ true
 
-  pub refused-same : (call : Call) → Same c (effectOn c call)
-  unfolding most
-  refused-same (Receive now arrival m) = same-fair c most (byKind (c .settings) (staysOf c) (ranOf c) now arrival (m .header) (m .body)) (fair-receive (c .settings) (staysOf c) (ranOf c) most (omega arith) (omega arith) now arrival m)
-  refused-same (Request now room) = same-fair c most (requests (c .settings) (staysOf c) (ranOf c) now room) (fair-request (c .settings) (staysOf c) (ranOf c) most (omega arith) (omega arith) now room)
-  refused-same (Sent now sequence t3) = same-fair c most (sends (c .settings) (staysOf c) (ranOf c) now sequence t3) (fair-sent (c .settings) (staysOf c) (ranOf c) most (omega arith) (omega arith) now sequence t3)
-  refused-same (Time now) = same-fair c most (times (c .settings) (staysOf c) (ranOf c) now) (fair-time (c .settings) (staysOf c) (ranOf c) most (omega arith) (omega arith) now)
-  refused-same Reset = λ h. absurd (never h)
-  refused-same (Tick reference clock) =
-      every-outcome (λ o. Same c (ticks (staysOf c) o)) (λ h. refl) (λ h. absurd (never h)) (λ h. absurd (never h)) (λ h. absurd (never h))
+  -- ---- the table: an Announce that is refused does not change it
+  not-chosen : (t : Table) (now : ℕ) → Refused (chooses (c .unit .settings) (staysOf (c .unit)) (ranOf (c .unit) (c .servo)) t now) → ⊥
+  unfolding chooses
+  not-chosen t now = byTest (λ e. Refused e → ⊥) (sameMasterOf (c .unit .domain .chosen) (masterAt (c .unit .settings) t now)) never never
+
+  abbrev ends : ℕ → Admitted → Effect
+  ends now a = admits (c .unit .settings) (staysOf (c .unit)) (ranOf (c .unit) (c .servo)) (a .table) now (a .answer)
+
+  not-accepted : (m : Announce) (interval now : ℕ) → Refused (ends now (acceptedOf (c .table .records) m interval now)) → ⊥
+  unfolding acceptedOf
+  not-accepted m interval now = byTest (λ (a : Admitted). Refused (ends now a) → ⊥) (isKnown (c .table .records) m interval now) (not-chosen _ now) (not-chosen _ now)
+
+  by-verdict : (m : Announce) (interval now : ℕ) (v : Verdict) → Refused (ends now (given v (c .table) (acceptedOf (c .table .records) m interval now)))
+      → given v (c .table) (acceptedOf (c .table .records) m interval now) .table ≡ c .table
+  by-verdict m interval now Clear h = absurd (not-accepted m interval now h)
+  by-verdict m interval now (Barred n) h = refl
+
+  same-table : (now : ℕ) (arrival : Stamp) (h : Header) (b : Body)
+      → Refused (byKind (c .unit .settings) (staysOf (c .unit)) (ranOf (c .unit) (c .servo)) (c .table) now arrival h b)
+      → tableBy (c .unit .settings) (staysOf (c .unit)) (c .table) now h b ≡ c .table
+  unfolding announces admittedOf
+  same-table now arrival h (bodies.Announce stamp offer) e =
+      let m : Announce = record { header = h; stamp = stamp; offer = offer } in
+      let i = intervalOf (c .unit .settings .announce) in
+      by-verdict m i now (firstOf (entrance m (c .unit .settings .domain) (c .unit .settings .own) (c .unit .now) now ++ seating (c .table .records) m i now)) e
+  same-table now arrival h (bodies.DelayReq stamp) e = refl
+  same-table now arrival h (bodies.Sync t1) e = refl
+  same-table now arrival h (bodies.FollowUp t1) e = refl
+  same-table now arrival h (bodies.DelayResp t4 requester) e = refl
+
+  refused-table : (call : Call) → Refused (effectOn c call) → tableOn c call ≡ c .table
+  refused-table (Receive now arrival m) e = same-table now arrival (m .header) (m .body) e
+  refused-table (Request now room) e = refl
+  refused-table (Sent now sequence t3) e = refl
+  refused-table (Time now) e = refl
+  refused-table Reset e = refl
+  refused-table (Tick reference clock) e = refl
+  refused-table Line e = refl
+  refused-table Show e = refl
+
+  -- ---- and all else
+  abbrev Same : Effect → Type 0
+  Same e = Refused e → applied c (c .table) e .card ≡ c
+
+  same-fair : (e : Effect) → Fair (most c) e → Same e
+  same-fair (keeps a) f h = refl
+  same-fair (goes a k r) f h = absurd (never (sym (f .0) ∙ h))
+  same-fair (takes origin x) f h = absurd f
+  same-fair (wipes a k) f h = absurd (never (sym f ∙ h))
+
+  marked : (b : Bool) → isRefusal (cond b Valid Invalid) ≡ true → ⊥
+  marked true h = never h
+  marked false h = never h
+
+  same-by : (call : Call) → Fair (most c) (effectOn c call) → Same (effectOn c call)
+  same-by call = same-fair (effectOn c call)
+
+  same-rest : (call : Call) → Same (effectOn c call)
+  same-rest (Receive now arrival m) = same-by (Receive now arrival m) (fair c (Receive now arrival m))
+  same-rest (Request now room) = same-by (Request now room) (fair c (Request now room))
+  same-rest (Sent now sequence t3) = same-by (Sent now sequence t3) (fair c (Sent now sequence t3))
+  same-rest (Time now) = same-by (Time now) (fair c (Time now))
+  same-rest Reset = same-by Reset (fair c Reset)
+  same-rest (Tick reference clock) =
+      every-outcome (λ o. Same (ticks (staysOf (c .unit)) o)) (λ h. refl) (λ h. absurd (never h)) (λ h. absurd (never h)) (λ h. absurd (never h))
       (λ origin x h. absurd (marked (x .valid) h))
-      (c .settings .watch) (told (c .domain .run .watch)) reference clock
-  refused-same Line = λ h. refl
-  refused-same Show = λ h. refl
+      (c .unit .settings .watch) (told (c .watch)) reference clock
+  same-rest Line = same-by Line (fair c Line)
+  same-rest Show = same-by Show (fair c Show)
+
+  pub refused-same : (call : Call) → Refused (effectOn c call) → applied c (tableOn c call) (effectOn c call) .card ≡ c
+  refused-same call h = rw (refused-table call h) (same-rest call h)

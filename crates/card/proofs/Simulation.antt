@@ -1,115 +1,138 @@
 -- The card's memory against the story: what it tells of it, and that every call keeps it so.
 use mathlib.Core.Path.{_≡_, refl, ap, _∙_}
 use mathlib.Core.List.{List, [], _∷_, reverse, reverseAux}
-use Prim.Native.Nat.{ℕ, suc, _+_, _≤_, _%_, _^_}
+use Prim.Native.Nat.{ℕ, suc, _≤_, _%_, _^_}
 use native.Mathlib.Omega.{arith}
 use lib.IntN.{ℤ}
 use Rattle.numbers.specs.Integers.{up}
+use Rattle.numbers.specs.declared.refusal.Refusal.the-variants.{Tick as NoTick}
+use Rattle.masters.specs.declared.table.Table.{Table}
 use Rattle.watch.specs.declared.Drift.{Drift}
 use Rattle.watch.specs.Rules.{Outcome, refuse, wipe, take, outcome, lineSince, became as sinceAfter}
 use Rattle.watch.specs.Watch.{leaves}
 use Rattle.watch.proofs.Story.{Good, fresh-good, same-outcome, good-takes, good-keeps, good-line}
-use Rattle.card.specs.declared.settings.Settings.{Settings}
+use Rattle.settings.specs.declared.Settings.{Settings}
+use Rattle.unit.specs.declared.calls.Call.{Call}
+use Rattle.unit.specs.declared.calls.Call.the-variants.{Receive, Request, Sent, Time, Reset, Tick, Line, Show}
+use Rattle.unit.specs.declared.calls.Answer.{Answer}
+use Rattle.unit.specs.declared.calls.Answer.the-variants.{Refused}
+use Rattle.unit.specs.Wipe.{oneMore}
+use Rattle.unit.specs.Effects.{Stays, Ran, Effect, keeps, goes, takes, wipes, staysOf, ranOf}
+use Rattle.unit.specs.Ticking.{asAnswer, ticks}
+use Rattle.unit.proofs.Fair.{steering, Fair}
 use Rattle.card.specs.declared.Card.{Card}
-use Rattle.card.specs.declared.calls.Call.{Call}
-use Rattle.card.specs.declared.calls.Call.the-variants.{Receive, Request, Sent, Time, Reset, Tick, Line, Show}
-use Rattle.card.specs.declared.calls.Answer.{Answer}
-use Rattle.card.specs.declared.calls.Answer.the-variants.{Wiped}
-use Rattle.card.specs.Wipe.{freshCard}
-use Rattle.card.specs.Effects.{Stays, Ran, Effect, keeps, goes, takes, wipes, staysOf, ranOf, applied}
-use Rattle.card.specs.Choosing.{times}
-use Rattle.card.specs.Measuring.{requests, sends}
-use Rattle.card.specs.Ticking.{asAnswer, ticks}
-use Rattle.card.specs.Calls.{byKind, unlocked, effectOf, effectOn, stepOf}
-use Rattle.card.specs.Story.{Past, start, effectAfter, became, saying, past, answerAfter}
-use Rattle.card.proofs.Fair.{steering, Fair, fair-receive, fair-request, fair-sent, fair-time}
+use Rattle.card.specs.Calls.{effectOf, tableAfter, freshCard, applied, effectOn, tableOn, stepOf}
+use Rattle.card.specs.Story.{Past, start, effectAfter, became, after, saying, past, answerAfter}
+use Rattle.card.proofs.Fairly.{Fairly, fair-call}
 
 -- the card c tells the past p
 pub record Tells (s : Settings) (p : Past) (c : Card) : Type 0 where
-  pub settings : c .settings ≡ s
-  pub stays : staysOf c ≡ p .stays
-  pub ran : ranOf c ≡ p .ran
-  pub count : c .domain .wipes ≡ p .count % 2 ^ 32
-  pub watch : Good (s .watch) (p .since) (c .domain .run .watch)
+  pub settings : c .unit .settings ≡ s
+  pub stays : staysOf (c .unit) ≡ p .stays
+  pub table : c .table ≡ p .table
+  pub ran : ranOf (c .unit) (c .servo) ≡ p .ran
+  pub count : c .unit .domain .wipes ≡ p .count % 2 ^ 32
+  pub watch : Good (s .watch) (p .since) (c .watch)
   pub within : steering (p .ran) ≤ up (s .limit .0)
 
 pub start-told : (s : Settings) → Tells s (start s) (freshCard s)
-start-told s = record { settings = refl; stays = refl; ran = refl; count = refl; watch = fresh-good (s .watch); within = omega arith }
+start-told s = record { settings = refl; stays = refl; table = refl; ran = refl; count = refl; watch = fresh-good (s .watch); within = omega arith }
 
 -- ---- what a call does depends on what stands alone
 module _ (call : Call) (o : ℤ → ℤ → Outcome) where
-  same-stands : {s t : Settings} {k m : Stays} {r q : Ran} {i j : ℕ} {d e : Drift} → s ≡ t → k ≡ m → r ≡ q → i ≡ j → d ≡ e → effectOf s k r i o d call ≡ effectOf t m q j o e call
-  same-stands a b c d e = rw (a, b, c, d, e)
+  same-stands : {s t : Settings} {k m : Stays} {r q : Ran} {a b : Table} {i j : ℕ} {d e : Drift} → s ≡ t → k ≡ m → r ≡ q → a ≡ b → i ≡ j → d ≡ e
+      → effectOf s k r a i o d call ≡ effectOf t m q b j o e call
+  same-stands u v w x y z = rw (u, v, w, x, y, z)
 
-same-pulse : (call : Call) (s : Settings) (k : Stays) (r : Ran) (n : ℕ) (d : Drift) (o u : ℤ → ℤ → Outcome) → ((a b : ℤ) → o a b ≡ u a b) → effectOf s k r n o d call ≡ effectOf s k r n u d call
-same-pulse (Receive now arrival m) s k r n d o u e = refl
-same-pulse (Request now room) s k r n d o u e = refl
-same-pulse (Sent now sequence t3) s k r n d o u e = refl
-same-pulse (Time now) s k r n d o u e = refl
-same-pulse Reset s k r n d o u e = refl
-same-pulse (Tick reference clock) s k r n d o u e = ap (ticks k) (e reference clock)
-same-pulse Line s k r n d o u e = refl
-same-pulse Show s k r n d o u e = refl
+same-pulse : (call : Call) (s : Settings) (k : Stays) (r : Ran) (t : Table) (n : ℕ) (d : Drift) (o u : ℤ → ℤ → Outcome) → ((a b : ℤ) → o a b ≡ u a b)
+    → effectOf s k r t n o d call ≡ effectOf s k r t n u d call
+same-pulse (Receive now arrival m) s k r t n d o u e = refl
+same-pulse (Request now room) s k r t n d o u e = refl
+same-pulse (Sent now sequence t3) s k r t n d o u e = refl
+same-pulse (Time now) s k r t n d o u e = refl
+same-pulse Reset s k r t n d o u e = refl
+same-pulse (Tick reference clock) s k r t n d o u e = ap (ticks k) (e reference clock)
+same-pulse Line s k r t n d o u e = refl
+same-pulse Show s k r t n d o u e = refl
 
-pub same-effect : {s : Settings} {p : Past} {c : Card} → Tells s p c → s .watch .holdoff ≤ 10 → (call : Call) → effectOn c call ≡ effectAfter s p call
-same-effect {s} {p} {c} t h call =
-    same-stands call _ (t .settings) (t .stays) (t .ran) (t .count) (rw (t .settings) (good-line (t .watch) h))
-    ∙ same-pulse call s (p .stays) (p .ran) (p .count % 2 ^ 32) (lineSince (s .watch) (p .since)) _ _
-    (λ a b. rw (t .settings) (same-outcome (t .watch) a b))
+same-seats : (call : Call) {s t : Settings} {k m : Stays} {a b : Table} → s ≡ t → k ≡ m → a ≡ b → tableAfter s k a call ≡ tableAfter t m b call
+same-seats call u v w = rw (u, v, w)
+
+module _ {s : Settings} {p : Past} {c : Card} (t : Tells s p c) where
+  pub same-effect : s .watch .holdoff ≤ 10 → (call : Call) → effectOn c call ≡ effectAfter s p call
+  same-effect h call =
+      same-stands call _ (t .settings) (t .stays) (t .ran) (t .table) (t .count) (rw (t .settings) (good-line (t .watch) h))
+      ∙ same-pulse call s (p .stays) (p .ran) (p .table) (p .count % 2 ^ 32) (lineSince (s .watch) (p .since)) _ _
+      (λ a b. rw (t .settings) (same-outcome (t .watch) a b))
+
+  same-table : (call : Call) → tableOn c call ≡ tableAfter s (p .stays) (p .table) call
+  same-table call = same-seats call (t .settings) (t .stays) (t .table)
 
 -- ---- and the card goes with the story
-pub same-answer : (c : Card) (e : Effect) → applied c e .answer ≡ saying e
-same-answer c (keeps a) = refl
-same-answer c (goes a k r) = refl
-same-answer c (takes origin x) = refl
-same-answer c (wipes a k) = refl
+pub same-answer : (c : Card) (t : Table) (e : Effect) → applied c t e .answer ≡ saying e
+same-answer c t (keeps a) = refl
+same-answer c t (goes a k r) = refl
+same-answer c t (takes origin x) = refl
+same-answer c t (wipes a k) = refl
 
-counted : (n : ℕ) → (n % 2 ^ 32 + 1) % 2 ^ 32 ≡ suc n % 2 ^ 32
+counted : (n : ℕ) → oneMore (n % 2 ^ 32) ≡ suc n % 2 ^ 32
 counted n = omega arith
 
 module _ {s : Settings} {p : Past} {c : Card} (t : Tells s p c) where
-  wiped-told : (a : Answer) (k : Stays) → Tells s (became s p (wipes a k)) (applied c (wipes a k) .card)
-  wiped-told a k =
+  wiped-told : (x : Table) (a : Answer) (k : Stays) → Tells s (became s p x (wipes a k)) (applied c x (wipes a k) .card)
+  wiped-told x a k =
       record {
         settings = t .settings;
         stays = refl;
+        table = refl;
         ran = rw (t .settings);
-        count = ap (λ (n : ℕ). (n + 1) % 2 ^ 32) (t .count) ∙ counted (p .count);
+        count = ap oneMore (t .count) ∙ counted (p .count);
         watch = fresh-good (s .watch);
         within = omega arith;
       }
 
-  effect-told : (e : Effect) → Fair (up (s .limit .0)) e → Tells s (became s p e) (applied c e .card)
-  effect-told (keeps a) f = t
-  effect-told (goes a k r) f = record { settings = t .settings; stays = refl; ran = refl; count = t .count; watch = t .watch; within = f .1 }
-  effect-told (takes origin x) f = absurd f
-  effect-told (wipes a k) f = wiped-told a k
+  kept-told : (x : Table) (a : Answer) → Tells s (became s p x (keeps a)) (applied c x (keeps a) .card)
+  kept-told x a =
+      record { settings = t .settings; stays = t .stays; table = refl; ran = t .ran; count = t .count; watch = t .watch; within = t .within }
 
-  pulse-told : (o : Outcome) → Good (s .watch) (sinceAfter (p .since) o) (leaves (s .watch) (c .domain .run .watch) o .watch)
-      → Tells s (became s p (ticks (p .stays) o)) (applied c (ticks (p .stays) o) .card)
-  pulse-told refuse g = t
-  pulse-told (wipe a) g = wiped-told (asAnswer a) (p .stays)
-  pulse-told (take origin x) g =
-      record { settings = t .settings; stays = t .stays; ran = t .ran; count = t .count; watch = rw (t .settings) g; within = t .within }
+  effect-told : (x : Table) (e : Effect) → Fair (up (s .limit .0)) e → Tells s (became s p x e) (applied c x e .card)
+  effect-told x (keeps a) f = kept-told x a
+  effect-told x (goes a k r) f =
+      record { settings = t .settings; stays = refl; table = refl; ran = refl; count = t .count; watch = t .watch; within = f .1 }
+  effect-told x (takes origin y) f = absurd f
+  effect-told x (wipes a k) f = wiped-told x a k
 
-  call-told : (call : Call) → Tells s (became s p (effectAfter s p call)) (applied c (effectAfter s p call) .card)
-  call-told (Receive now arrival m) = effect-told (byKind s (p .stays) (p .ran) now arrival (m .header) (m .body)) (fair-receive s (p .stays) (p .ran) (up (s .limit .0)) (omega arith) (t .within) now arrival m)
-  call-told (Request now room) = effect-told (requests s (p .stays) (p .ran) now room) (fair-request s (p .stays) (p .ran) (up (s .limit .0)) (omega arith) (t .within) now room)
-  call-told (Sent now sequence t3) = effect-told (sends s (p .stays) (p .ran) now sequence t3) (fair-sent s (p .stays) (p .ran) (up (s .limit .0)) (omega arith) (t .within) now sequence t3)
-  call-told (Time now) = effect-told (times s (p .stays) (p .ran) now) (fair-time s (p .stays) (p .ran) (up (s .limit .0)) (omega arith) (t .within) now)
-  call-told Reset = wiped-told Wiped (unlocked (p .stays))
-  call-told (Tick reference clock) =
-      pulse-told (outcome (s .watch) (p .since) reference clock)
+  pulse-told : (x : Table) (o : Outcome) → Good (s .watch) (sinceAfter (p .since) o) (leaves (s .watch) (c .watch) o .watch)
+      → Tells s (became s p x (ticks (p .stays) o)) (applied c x (ticks (p .stays) o) .card)
+  pulse-told x refuse g = kept-told x (Refused NoTick)
+  pulse-told x (wipe a) g = wiped-told x (asAnswer a) (p .stays)
+  pulse-told x (take origin y) g =
+      record { settings = t .settings; stays = t .stays; table = refl; ran = t .ran; count = t .count; watch = rw (t .settings) g; within = t .within }
+
+  fair : (call : Call) → Fairly (up (s .limit .0)) call (effectAfter s p call)
+  fair call = fair-call s (p .stays) (p .ran) (p .table) (up (s .limit .0)) (omega arith) (t .within) _ _ _ call
+
+  fairly-told : (call : Call) (x : Table) → Fair (up (s .limit .0)) (effectAfter s p call) → Tells s (became s p x (effectAfter s p call)) (applied c x (effectAfter s p call) .card)
+  fairly-told call x = effect-told x (effectAfter s p call)
+
+  call-told : (call : Call) (x : Table) → Tells s (became s p x (effectAfter s p call)) (applied c x (effectAfter s p call) .card)
+  call-told (Receive now arrival m) x = fairly-told (Receive now arrival m) x (fair (Receive now arrival m))
+  call-told (Request now room) x = fairly-told (Request now room) x (fair (Request now room))
+  call-told (Sent now sequence t3) x = fairly-told (Sent now sequence t3) x (fair (Sent now sequence t3))
+  call-told (Time now) x = fairly-told (Time now) x (fair (Time now))
+  call-told Reset x = fairly-told Reset x (fair Reset)
+  call-told (Tick reference clock) x =
+      pulse-told x (outcome (s .watch) (p .since) reference clock)
       (rw (good-takes (t .watch) reference clock) at (good-keeps (t .watch) reference clock))
-  call-told Line = t
-  call-told Show = t
+  call-told Line x = fairly-told Line x (fair Line)
+  call-told Show x = fairly-told Show x (fair Show)
 
   -- one call more
-  pub step-told : s .watch .holdoff ≤ 10 → (call : Call) → Tells s (became s p (effectAfter s p call)) (stepOf c call .card)
-  step-told h call = rw (same-effect t h call) (call-told call)
+  pub step-told : s .watch .holdoff ≤ 10 → (call : Call) → Tells s (after s p call) (stepOf c call .card)
+  step-told h call = rw (same-effect t h call, same-table t call) (call-told call (tableAfter s (p .stays) (p .table) call))
 
   pub step-answers : s .watch .holdoff ≤ 10 → (call : Call) → stepOf c call .answer ≡ saying (effectAfter s p call)
-  step-answers h call = rw (same-effect t h call) (same-answer c (effectAfter s p call))
+  step-answers h call = rw (same-effect t h call) (same-answer c (tableOn c call) (effectAfter s p call))
 
 -- ---- any list of calls, the oldest first
 unfoldable pub played : Card → List Call → Card

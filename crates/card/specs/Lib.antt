@@ -1,11 +1,2 @@
-pub mod Settings
-pub mod Wipe
-pub mod Effects
-pub mod Choosing
-pub mod Measuring
-pub mod Ticking
-pub mod Showing
 pub mod Calls
-pub mod Frame
 pub mod Story
-pub mod Refusing

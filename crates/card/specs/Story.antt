@@ -3,21 +3,24 @@
 use Prim.Native.Nat.{ℕ, suc, _%_, _^_}
 use mathlib.Core.Bool.{Bool, true, false, cond}
 use mathlib.Core.List.{List, [], _∷_, _++_}
+use Rattle.masters.specs.declared.table.Table.{Table}
 use Rattle.masters.specs.Places.{emptyTable}
 use Rattle.masters.specs.Holding.{nobody}
 use Rattle.watch.specs.declared.window.Sample.{Sample}
 use Rattle.watch.specs.Rules.{Since, wiped, outcome, windowOf, lineSince}
-use Rattle.card.specs.declared.settings.Settings.{Settings}
-use Rattle.card.specs.declared.calls.Call.{Call}
-use Rattle.card.specs.declared.calls.Answer.{Answer}
-use Rattle.card.specs.declared.calls.Answer.the-variants.{Valid, Invalid}
-use Rattle.card.specs.Effects.{Stays, Ran, freshRan, Effect, keeps, goes, takes, wipes}
-use Rattle.card.specs.Calls.{effectOf}
+use Rattle.settings.specs.declared.Settings.{Settings}
+use Rattle.unit.specs.declared.calls.Call.{Call}
+use Rattle.unit.specs.declared.calls.Answer.{Answer}
+use Rattle.unit.specs.declared.calls.Answer.the-variants.{Valid, Invalid}
+use Rattle.unit.specs.Effects.{Stays, Ran, freshRan, Effect, keeps, goes, takes, wipes}
+use Rattle.card.specs.Calls.{effectOf, tableAfter}
 
 -- what the calls so far say
 pub record Past : Type 0 where
-  -- the now that stands, the table of masters, the choice that stands, FAULTY, and the sequenceId of the next request
+  -- the now that stands, the choice that stands, FAULTY, and the sequenceId of the next request
   pub stays : Stays
+  -- the table of masters
+  pub table : Table
   -- since the last wipe: the exchange, the servo, the last accepted measurement
   pub ran : Ran
   -- since the last wipe: all samples taken, the oldest first, with the origin that their y are counted from
@@ -29,7 +32,8 @@ pub record Past : Type 0 where
 abbrev pub start : Settings → Past
 start s =
     record {
-      stays = record { now = 0; table = emptyTable; chosen = nobody; faulty = false; sequence = 0 };
+      stays = record { now = 0; chosen = nobody; faulty = false; sequence = 0 };
+      table = emptyTable;
       ran = freshRan s;
       since = wiped;
       count = 0;
@@ -37,7 +41,8 @@ start s =
 
 -- what this call does, after such a past: "the wipe count (remainder by 2^32)"
 abbrev pub effectAfter : Settings → Past → Call → Effect
-effectAfter s p call = effectOf s (p .stays) (p .ran) (p .count % 2 ^ 32) (outcome (s .watch) (p .since)) (lineSince (s .watch) (p .since)) call
+effectAfter s p call =
+    effectOf s (p .stays) (p .ran) (p .table) (p .count % 2 ^ 32) (outcome (s .watch) (p .since)) (lineSince (s .watch) (p .since)) call
 
 -- this call wipes
 abbrev pub isWipe : Effect → Bool
@@ -49,12 +54,16 @@ isWipe (wipes a k) = true
 abbrev pub wipesAfter : Settings → Past → Call → Bool
 wipesAfter s p call = isWipe (effectAfter s p call)
 
--- the past with one call more
-abbrev pub became : Settings → Past → Effect → Past
-became s p (keeps a) = p
-became s p (goes a k r) = record { stays = k; ran = r; since = p .since; count = p .count }
-became s p (takes origin x) = record { stays = p .stays; ran = p .ran; since = record { origin = origin; samples = p .since .samples ++ (x ∷ []) }; count = p .count }
-became s p (wipes a k) = record { stays = k; ran = freshRan s; since = wiped; count = suc (p .count) }
+-- the past with one call more, where t is the table after it
+abbrev pub became : Settings → Past → Table → Effect → Past
+became s p t (keeps a) = record { stays = p .stays; table = t; ran = p .ran; since = p .since; count = p .count }
+became s p t (goes a k r) = record { stays = k; table = t; ran = r; since = p .since; count = p .count }
+became s p t (takes origin x) =
+    record { stays = p .stays; table = t; ran = p .ran; since = record { origin = origin; samples = p .since .samples ++ (x ∷ []) }; count = p .count }
+became s p t (wipes a k) = record { stays = k; table = t; ran = freshRan s; since = wiped; count = suc (p .count) }
+
+abbrev pub after : Settings → Past → Call → Past
+after s p call = became s p (tableAfter s (p .stays) (p .table) call) (effectAfter s p call)
 
 -- the answer
 abbrev pub saying : Effect → Answer
@@ -66,7 +75,7 @@ saying (wipes a k) = a
 -- ---- the story
 unfoldable pub past : Settings → List Call → Past
 past s [] = start s
-past s (call ∷ before) = became s (past s before) (effectAfter s (past s before) call)
+past s (call ∷ before) = after s (past s before) call
 
 -- the answer to a call that comes after those
 unfoldable pub answerAfter : Settings → List Call → Call → Answer

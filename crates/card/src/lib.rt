@@ -1,69 +1,33 @@
-// The card: the unit of document 01 whole. One step for each call, one wipe for all.
-pub mod calls;
-pub mod choosing;
-pub mod frame;
-pub mod measuring;
-pub mod run;
-pub mod settings;
-pub mod showing;
-pub mod ticking;
-
+// The card: the unit of document 01 whole, with its servo, its table of masters and its watch. One step for each call.
 ghost use mathlib.Core.Path.{_≡_};
-ghost use Rattle.card.specs.Wipe.{freshDomain, freshCard, wipedFrom};
-ghost use Rattle.card.specs.Effects.{keeps, wipes, staysOf, at, applied};
-ghost use Rattle.card.specs.Calls.{receiveOf, stepOf};
-use calls::Answer;
-use calls::Call;
-use calls::Stepped;
+ghost use lib.ListN.{length};
+ghost use Rattle.unit.specs.Frame.{frameAfter};
+ghost use Rattle.card.specs.Calls.{freshCard, putBy, receiveOf, stepOf};
 use layout::message::Body;
 use layout::message::Message;
-use masters::chosen::Chosen;
 use masters::record::Announce;
 use masters::table::Table;
-use numbers::refusal::Refusal;
 use numbers::stamp::Stamp;
-use run::Run;
+use servo::Servo;
 use settings::Settings;
-
-// What belongs to one domain.
-#[repr(C)]
-pub struct Domain {
-    pub chosen: Chosen,
-    pub run: Run,
-    pub wipes: u32, // the wipe count, modulo 2^32
-    pub faulty: bool,
-    pub sequence: u16, // of the next request
-}
+use unit::Moved;
+use unit::Unit;
+use unit::calls::Answer;
+use unit::calls::Call;
+use unit::frame;
+use watch::Watch;
 
 #[repr(C)]
 pub struct Card {
-    pub settings: Settings,
+    pub unit: Unit,
+    pub servo: Servo,
     pub table: Table,
-    pub now: u64, // the last accepted
-    pub domain: Domain,
+    pub watch: Watch,
 }
 
-impl Domain {
-    pub fn fresh(settings: Settings) -> Domain
-        ensures { λ r. ⌜ r ≡ freshDomain settings ⌝ }
-    {
-        Domain {
-            chosen: Chosen::fresh(),
-            run: Run::fresh(settings),
-            wipes: 0,
-            faulty: false,
-            sequence: 0,
-        }
-    }
-
-    // The wipe: the fresh run in place of what was, and the count up by one.
-    fn wiped(mut self, settings: Settings) -> Domain
-        ensures { λ r. ⌜ r ≡ wipedFrom settings self ⌝ }
-    {
-        self.run = Run::fresh(settings);
-        self.wipes = ((self.wipes as u64 + 1) % 4294967296) as u32;
-        self
-    }
+pub struct Stepped {
+    pub answer: Answer,
+    pub card: Card,
 }
 
 impl Card {
@@ -71,79 +35,93 @@ impl Card {
         ensures { λ r. ⌜ r ≡ freshCard settings ⌝ }
     {
         Card {
-            settings,
+            unit: Unit::fresh(settings),
+            servo: Servo::fresh(settings.kp, settings.ki),
             table: Table::fresh(),
-            now: 0,
-            domain: Domain::fresh(settings),
+            watch: Watch::fresh(),
         }
     }
 
-    // A refusal returns its number, and the card that came in.
-    pub(crate) fn refuse(self, number: Refusal) -> Stepped
-        ensures { λ r. ⌜ r ≡ applied self (keeps (Answer.Refused number)) ⌝ }
+    // Unit and servo as a call left them, and a fresh watch where it wiped.
+    fn after(mut self, moved: Moved) -> Stepped
+        ensures { λ r. ⌜ r ≡ putBy self moved ⌝ }
     {
-        Stepped {
-            answer: Answer::Refused(number),
-            card: self,
+        let unit = moved.unit;
+        let servo = moved.servo;
+        let answer = moved.answer;
+        self.unit = unit;
+        self.servo = servo;
+        if moved.wipes {
+            self.watch = Watch::fresh();
         }
-    }
-
-    // Table, chosen master, now and own sequenceId remain, and so does FAULTY.
-    pub(crate) fn wipe(mut self, now: u64, answer: Answer) -> Stepped
-        ensures { λ r. ⌜ r ≡ applied self (wipes answer (at now (staysOf self))) ⌝ }
-    {
-        let domain = self.domain;
-        let wiped = domain.wiped(self.settings);
-        self.now = now;
-        self.domain = wiped;
         Stepped { answer, card: self }
     }
 
-    // The operator's reset, which alone ends FAULTY.
-    fn reset(mut self) -> Stepped
-        ensures { λ r. ⌜ r ≡ stepOf self Call.Reset ⌝ }
+    // A call that changes nothing.
+    fn says(self, answer: Answer) -> Stepped
+        ensures { λ r. ⌜ r ≡ record { answer = answer; card = self } ⌝ }
     {
-        let mut domain = self.domain;
-        domain.faulty = false;
-        self.domain = domain;
-        self.wipe(self.now, Answer::Wiped)
+        Stepped { answer, card: self }
     }
 
-    // A read message. A Delay_Req is no message for a slave: KIND, before all else.
-    fn receive(self, now: u64, arrival: Stamp, m: Message) -> Stepped
+    // A read message: an Announce is handed over with the table.
+    fn receive(mut self, now: u64, arrival: Stamp, m: Message) -> Stepped
         ensures { λ r. ⌜ r ≡ receiveOf self now arrival m ⌝ }
     {
+        let unit = self.unit;
         let header = m.header;
         let body = m.body;
         match body {
-            Body::DelayReq(_) => self.refuse(Refusal::Kind),
             Body::Announce(stamp, offer) => {
                 let announce = Announce {
                     header,
                     stamp,
                     offer,
                 };
-                self.announce(now, announce)
+                let seated = unit.announce(self.servo, self.table, now, announce);
+                let table = seated.table;
+                self.table = table;
+                self.after(seated.moved)
             }
-            Body::Sync(t1) => self.sync(now, header, t1, arrival),
-            Body::FollowUp(t1) => self.follow_up(now, header, t1),
-            Body::DelayResp(t4, requester) => self.delay_resp(now, header, t4, requester),
+            _ => self.after(unit.heard(self.servo, now, arrival, m)),
         }
+    }
+
+    // A second pulse.
+    fn tick(mut self, reference: i64, clock: i64) -> Stepped
+        ensures { λ r. ⌜ r ≡ stepOf self (Call.Tick reference clock) ⌝ }
+    {
+        let unit = self.unit;
+        let ticked = unit.tick(self.servo, self.watch, reference, clock);
+        let watch = ticked.watch;
+        self.watch = watch;
+        self.after(ticked.moved)
     }
 
     // Any call, in any state.
     pub fn step(self, call: Call) -> Stepped
         ensures { λ r. ⌜ r ≡ stepOf self call ⌝ }
     {
+        let unit = self.unit;
         match call {
             Call::Receive(now, arrival, m) => self.receive(now, arrival, m),
-            Call::Request(now, room) => self.request(now, room),
-            Call::Sent(now, sequence, t3) => self.sent(now, sequence, t3),
-            Call::Time(now) => self.time(now),
-            Call::Reset => self.reset(),
+            Call::Request(now, room) => self.after(unit.request(self.servo, now, room)),
+            Call::Sent(now, sequence, t3) => {
+                self.after(unit.sent(self.servo, now, sequence, t3))
+            }
+            Call::Time(now) => self.after(unit.time(self.servo, self.table, now)),
+            Call::Reset => self.after(unit.reset()),
             Call::Tick(reference, clock) => self.tick(reference, clock),
-            Call::Line => self.line(),
-            Call::Show => self.show(),
+            Call::Line => self.says(unit.line(self.watch)),
+            Call::Show => self.says(unit.show(self.servo)),
         }
     }
+}
+
+// The request into a lent frame: the unit's own Delay_Req stands behind the Ethernet header, or nothing is touched.
+pub fn request_into(card: Card, time: u64, frame: &mut [u8]) -> Stepped
+    ensures { λ r. ⌜ r ≡ stepOf card (Call.Request time (length (now (frame .entry)))) ⌝ }
+    ensures { λ _. ⌜ now (frame .exit) ≡ frameAfter (card .unit) time (now (frame .entry)) ⌝ }
+{
+    card.after(frame::request_into(card.unit, card.servo, time, frame))
 }

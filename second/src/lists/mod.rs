@@ -34,9 +34,9 @@ pub fn named(name: &str) -> Option<Vec<u8>> {
     }
 }
 
-/// What crates/bench/stdin holds today. When the card stands, this is `whole()`.
+/// What crates/bench/stdin holds.
 pub fn stored() -> Vec<u8> {
-    wire::list()
+    whole()
 }
 
 /// Every list one after the other, and a few random ones.

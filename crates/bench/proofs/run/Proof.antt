@@ -11,6 +11,9 @@ Inv-loop block₀ line₀ out₀ desk₀ turns₀ block line out desk turns = (l
 abbrev μ-loop : tie.MeasureT-loop
 μ-loop block₀ line₀ out₀ desk₀ turns₀ block line out desk turns = turns
 
+bare-requires : tie.Need-bare-requires Inv-loop μ-loop
+bare-requires c κs = search needs
+
 loop-holds : tie.Need-loop-holds Inv-loop μ-loop
 loop-holds c = search needs
 
@@ -59,6 +62,7 @@ run-spec =
     (tie.spec
     Inv-loop
     μ-loop
+    bare-requires
     loop-holds
     read-requires
     count-requires

@@ -1,24 +1,23 @@
 -- `Card::tick` meets its contract.
+use Rattle.unit.specs.declared.calls.Call.the-variants.{Tick}
+use Rattle.card.specs.Calls.{effectOn}
+use Rattle.card.proofs.Fairly.{put-pulse}
+use Rattle.numbers.specs.Integers.{back}
 use mathlib.Core.Path.{_∙_}
 use borrow.Author.Needs.{needs}
-use Rattle.numbers.specs.Integers.{back}
-use Rattle.watch.specs.Watch.{told}
-use Rattle.card.proofs.Pulses.{by-outcome}
 use Rattle.card.proofs.Card.tick.Statement.{statement}
 use Rattle.card.proofs.Card.tick.Tie as tie
 
-take-requires : tie.Need-take-requires
-take-requires c κs = search needs
+tick-requires : tie.Need-tick-requires
+tick-requires c κs = search needs
 
-ticked-requires : tie.Need-ticked-requires
-ticked-requires c κs = search needs
+after-requires : tie.Need-after-requires
+after-requires c κs = search needs
 
 returns : tie.Need-returns
 returns c =
-    let s = c .before .before .before in
-    c .ticked .ensures
-    ∙ rw (c .before .take .ensures, back (s .fits .reference), back (s .fits .clock))
-    (by-outcome (s .args .self) (told (s .args .self .domain .run .watch)) (s .args .reference) (s .args .clock))
+    let s = c .before .before .before .before in
+    c .after .ensures ∙ rw (c .before .before .tick .ensures, back (s .fits .reference), back (s .fits .clock)) (put-pulse (s .args .self) (effectOn (s .args .self) (Tick (s .args .reference) (s .args .clock))))
 
 pub tick-spec : {M : Type 1} → statement M
-tick-spec = tie.close (tie.spec take-requires ticked-requires returns)
+tick-spec = tie.close (tie.spec tick-requires after-requires returns)

@@ -1,0 +1,45 @@
+-- `Unit::admitted` meets its contract.
+use borrow.Author.Needs.{needs}
+use Rattle.unit.proofs.Unit.admitted.Statement.{statement}
+use Rattle.unit.proofs.Unit.admitted.Tie as tie
+
+enum-known-answer : tie.Need-enum-known-answer
+enum-known-answer c = search needs
+
+refuse-requires : tie.Need-refuse-requires
+refuse-requires c κs = search needs
+
+enum-told : tie.Need-enum-told
+enum-told c = search needs
+
+choose-requires : tie.Need-choose-requires
+choose-requires c κs = search needs
+
+enum-told-2 : tie.Need-enum-told-2
+enum-told-2 c = search needs
+
+choose-requires-2 : tie.Need-choose-requires-2
+choose-requires-2 c κs = search needs
+
+returns : tie.Need-returns
+returns c = rw (c .before .before .answer .given .1) (c .refuse .ensures)
+
+returns-2 : tie.Need-returns-2
+returns-2 c = rw (c .before .enum-told .given .1) (c .choose .ensures)
+
+returns-3 : tie.Need-returns-3
+returns-3 c = rw (c .before .enum-told2 .given .1) (c .choose2 .ensures)
+
+pub admitted-spec : {M : Type 1} → statement M
+admitted-spec =
+    tie.close
+    (tie.spec
+    enum-known-answer
+    refuse-requires
+    enum-told
+    choose-requires
+    enum-told-2
+    choose-requires-2
+    returns
+    returns-2
+    returns-3)

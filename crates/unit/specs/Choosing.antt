@@ -1,0 +1,50 @@
+-- What an Announce and the bare time call do: document 01, "Masters".
+use Prim.Native.Nat.{ℕ}
+use mathlib.Core.Bool.{cond}
+use lib.Dec.{ltb}
+use Rattle.numbers.specs.declared.refusal.Refusal.the-variants.{Now}
+use Rattle.masters.specs.declared.record.Announce.{Announce}
+use Rattle.masters.specs.declared.table.Table.{Table}
+use Rattle.masters.specs.declared.chosen.Chosen.{Chosen}
+use Rattle.masters.specs.declared.admission.Admitted.{Admitted}
+use Rattle.masters.specs.declared.admission.Answer.{Answer as Admission}
+use Rattle.masters.specs.declared.admission.Answer.the-variants.{Refused as NotAdmitted, Renewed, Entered}
+use Rattle.masters.specs.Choosing.{choiceOf}
+use Rattle.masters.specs.Holding.{chosenOf, sameMasterOf}
+use Rattle.masters.specs.Admitting.{admittedOf}
+use Rattle.settings.specs.declared.Settings.{Settings}
+use Rattle.unit.specs.declared.calls.Answer.the-variants.{Refused, Chose, Changed}
+use Rattle.unit.specs.Effects.{Stays, Ran, Effect, keeps, goes, wipes}
+
+-- the master at `now` over a table
+abbrev pub masterAt : Settings → Table → ℕ → Chosen
+masterAt s t now = chosenOf (choiceOf (t .records) now (s .announce))
+
+abbrev pub choosing : Stays → ℕ → Chosen → Stays
+choosing k now c = record { now = now; chosen = c; faulty = k .faulty; sequence = k .sequence }
+
+-- "Announce: 9 to 15 in that order": the table's answer, and the table after it, which a refusal leaves as it was
+abbrev pub admission : Settings → Stays → Table → ℕ → Announce → Admitted
+admission s k t now m = admittedOf t m (s .domain) (s .own) (s .announce) (k .now) now
+
+module _ (s : Settings) (k : Stays) (r : Ran) (t : Table) (now : ℕ) where
+  -- "the choice is made anew only at an accepted Announce and at a time call .. and is held between"; "A wipe (new or lost master, ..)"
+  unfoldable pub chooses : Effect
+  chooses =
+      cond (sameMasterOf (k .chosen) (masterAt s t now))
+      (goes (Chose (masterAt s t now)) (choosing k now (masterAt s t now)) r)
+      (wipes (Changed (masterAt s t now)) (choosing k now (masterAt s t now)))
+
+  -- by the table's answer, where this is the table after it
+  abbrev pub admits : Admission → Effect
+  admits (NotAdmitted n) = keeps (Refused n)
+  admits (Renewed place) = chooses
+  admits (Entered place) = chooses
+
+  -- "a time call (refused only by 9 ..)"
+  unfoldable pub times : Effect
+  times = cond (ltb now (k .now)) (keeps (Refused Now)) chooses
+
+-- an Announce: the choice is made over the table after it
+unfoldable pub announces : Settings → Stays → Ran → Table → ℕ → Announce → Effect
+announces s k r t now m = admits s k r (admission s k t now m .table) now (admission s k t now m .answer)

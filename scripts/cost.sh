@@ -1,0 +1,89 @@
+#!/usr/bin/env bash
+# What the calls of the door cost: instructions, stack, text and state, and linuxptp's instructions for like work. docs/COST.md has them.
+# Usage: scripts/cost.sh
+# Needs an x86-64 Debian machine with the kit (rt, or what RT names), gcc, binutils, python3, valgrind and dpkg-dev. LIB names a library
+# that is built already, LINUXPTP a folder with linuxptp's source; else it is got from the machine's own package sources, into a
+# temporary folder. The counts are the same at each run with the same kit and gcc.
+set -euo pipefail
+[ $# = 0 ] || { sed -n '2,6s/^# //p' "$0" >&2; exit 2; }
+[ -z "${LIB:-}" ] || LIB=$(realpath "$LIB")
+[ -z "${LINUXPTP:-}" ] || LINUXPTP=$(realpath "$LINUXPTP")
+cd "$(dirname "$0")/.."
+work=$(mktemp -d)
+trap 'rm -rf "$work"' EXIT
+[ -n "${LIB:-}" ] || { "${RT:-rt}" staticlib lent >&2; LIB=$PWD/target/staticlib/liblent.a; }
+cost=$PWD/scripts/cost
+
+# linuxptp's source by the machine's package sources, asked for sources; no setting of the machine is changed
+fetch() {
+  local apt=$work/apt
+  mkdir -p "$apt/parts" "$apt/lists/partial" "$apt/cache/archives/partial"
+  for list in /etc/apt/sources.list /etc/apt/sources.list.d/*.list /etc/apt/sources.list.d/*.sources; do
+    [ ! -e "$list" ] || sed 's/^Types:.*/Types: deb-src/; s/^deb /deb-src /' "$list" >"$apt/parts/$(basename "$list")"
+  done
+  mv "$apt/parts/sources.list" "$apt/parts/main.list" 2>/dev/null || true
+  local options=(-q -o Dir::Etc::sourcelist=/dev/null -o Dir::Etc::sourceparts="$apt/parts" -o Dir::State::lists="$apt/lists"
+                 -o Dir::Cache="$apt/cache" -o APT::Sandbox::User="$(id -un)")
+  (cd "$apt" && apt-get "${options[@]}" update && apt-get "${options[@]}" source --download-only linuxptp &&
+    dpkg-source --no-check -x linuxptp_*.dsc "$work/linuxptp") >"$work/log" 2>&1 || { cat "$work/log" >&2; exit 1; }
+  LINUXPTP=$work/linuxptp
+}
+
+# count PROGRAM FUNCTION..: the table of the program's counted calls, collected within the functions
+count() {
+  local program=$1 function toggles=()
+  shift
+  for function in "$@"; do toggles+=("--toggle-collect=$function"); done
+  valgrind --tool=callgrind --callgrind-out-file="$program.dump" "${toggles[@]}" "$program" >"$work/log" 2>&1 ||
+    { cat "$work/log" >&2; exit 1; }
+  echo "| Call | Instructions | Of them copying, comparing |"
+  echo "|---|---|---|"
+  python3 "$cost/table.py" "$program".dump.*
+}
+
+gcc -O2 -fno-builtin -fno-tree-vectorize -fno-tree-loop-distribute-patterns -c "$cost/plain.c" -o "$work/plain.o"
+gcc -std=c11 -O2 -Wall -Wextra -Idoor -I"$cost" "$cost/ours.c" "$work/plain.o" "$LIB" -Wl,-z,now -o "$work/ours"
+echo "## Instructions of the door"
+count "$work/ours" sinezhab_{read,write,make,watch,record,hear,turn,pulse,request} | tee "$work/ours.table"
+
+[ -n "${LINUXPTP:-}" ] || fetch
+cd "$LINUXPTP"
+defines=$(./incdefs.sh)
+for part in msg tlv bmc pi mmedian filter print; do
+  gcc -O2 -w -ffunction-sections $defines -DVER=0 -c $part.c -o "$work/$part.o"
+done
+gcc -O2 -w -ffunction-sections $defines -I. -I"$cost" -c "$cost/linuxptp.c" -o "$work/driver.o"
+gcc "$work"/{driver,msg,tlv,bmc,pi,mmedian,filter,print,plain}.o -Wl,--gc-sections -Wl,-z,now -lm -o "$work/theirs"
+cd - >/dev/null
+echo
+echo "## Instructions of linuxptp $(sed -n '1s/.*(\(.*\)).*/\1/p' "$LINUXPTP/debian/changelog" 2>/dev/null)"
+count "$work/theirs" msg_post_recv dscmp pi_sample mmedian_sample | tee "$work/theirs.table"
+
+echo
+echo "## Deepest stack, octets"
+python3 "$cost/stack.py" "$LIB" sinezhab_ | tee "$work/stack"
+
+echo
+echo "## Library and state, octets"
+code=$(size -A "$LIB" | awk '/^\.text/ { n += $2 } END { print n + 0 }')
+data=$(size -A "$LIB" | awk '/^\.rodata/ { n += $2 } END { print n + 0 }')
+asks=$(nm -u "$LIB" 2>/dev/null | awk '/ U / { print $2 }' | sort -u | tr '\n' ' ')
+echo "code $code, constants $data; asks of the C library: $asks"
+gcc -std=c11 -Idoor -Wall -Wextra "$cost/sizes.c" -o "$work/sizes"
+"$work/sizes" | tee "$work/state"
+
+# held NAME FIGURE LIMIT: says whether the figure is within the target
+held() { echo "$1: $2, target $3: $([ "$2" -le "$3" ] && echo met || echo missed)"; }
+# row TABLE NAME: the instructions of a call
+row() { awk -F ' [|] ' -v name="| $2" '$1 == name { gsub(",", "", $2); print $2 }' "$1"; }
+
+echo
+echo "## Targets"
+held "deepest stack" "$(sort -n "$work/stack" | awk 'END { print $1 }')" 8191
+held "state" "$(awk '{ print $NF }' "$work/state")" 8191
+held "code and constants" $((code + data)) 131071
+held "reading an Announce, against 3 times linuxptp's" "$(row "$work/ours.table" "read Announce")" \
+  $((3 * $(row "$work/theirs.table" "read Announce")))
+awk -F ' [|] ' 'NR > 2 && !/wiped/ { gsub(",", "", $2); print $2 " " substr($1, 3) }' "$work/ours.table" |
+  sort -n | tail -1 >"$work/dearest"
+held "dearest call that wipes nothing ($(cut -d ' ' -f 2- "$work/dearest"))" "$(cut -d ' ' -f 1 "$work/dearest")" 10000

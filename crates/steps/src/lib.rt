@@ -72,12 +72,11 @@ pub struct Made {
 fn laid(unit: Unit, servo: Servo, table: Table, answer: AnswerWords, wipes: bool) -> Heard
     ensures { λ r. ⌜ r ≡ laid unit servo table answer wipes ⌝ }
 {
-    let rows = table.records;
-    let row0 = rows[0];
-    let row1 = rows[1];
-    let row2 = rows[2];
-    let row3 = rows[3];
-    let row4 = rows[4];
+    let row0 = table.records[0];
+    let row1 = table.records[1];
+    let row2 = table.records[2];
+    let row3 = table.records[3];
+    let row4 = table.records[4];
     Heard {
         unit,
         servo,

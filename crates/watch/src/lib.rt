@@ -1,4 +1,5 @@
 // The drift watch of document 01: a sample at each second pulse, the window of the last W taken, and the line through its valid samples.
+mod judging;
 pub mod settings;
 mod stamps;
 pub mod totals;
@@ -6,14 +7,11 @@ pub mod window;
 
 ghost use mathlib.Core.Path.{_≡_};
 ghost use Prim.Native.Nat.{_+_, min};
-ghost use lib.IntN.{pos, _-ℤ_};
-ghost use lib.Signed.{_≤ℤ_};
-ghost use Rattle.watch.specs.Rules.{settled, judged};
-ghost use Rattle.watch.specs.Watch.{freshWatch, cleared, accepted, leaves, takes, drift};
+ghost use Rattle.watch.specs.Watch.{freshWatch, accepted, takes, drift};
+use judging::Verdict;
+use judging::judge;
 use numbers::refusal::Refusal;
 use settings::Settings;
-use stamps::apart;
-use stamps::outside;
 use totals::Line;
 use window::Sample;
 use window::Window;
@@ -36,9 +34,10 @@ pub enum Answer {
     Jump,
 }
 
+// The watch stands first: with a small field before it a copy of the window was made in pieces.
 pub struct Taken {
-    pub answer: Answer,
     pub watch: Watch,
+    pub answer: Answer,
 }
 
 pub enum Drift {
@@ -51,16 +50,6 @@ fn counted(taken: u8) -> u8
     ensures { λ r. ⌜ r ≡ min (taken + 1) 10 ⌝ }
 {
     if taken < 10 { taken + 1 } else { 10 }
-}
-
-// A wiping sample is not taken, and leaves nothing of what was.
-fn wiped(answer: Answer) -> Taken
-    ensures { λ r. ⌜ r ≡ cleared answer ⌝ }
-{
-    Taken {
-        answer,
-        watch: Watch::fresh(),
-    }
 }
 
 impl Watch {
@@ -99,73 +88,29 @@ impl Watch {
         }
     }
 
-    // JUMP, or taken.
-    fn settle(self, settings: Settings, previous: Sample, reference: i64, y: i32) -> Taken
-        requires { ⌜ pos 0 ≤ℤ reference ⌝ }
-        ensures { λ r. ⌜ r ≡ leaves settings self (settled settings (self .origin) previous reference y) ⌝ }
-    {
-        let moved = apart(y as i64, previous.y as i64);
-        if (settings.jump as u64) < moved {
-            return wiped(Answer::Jump);
-        }
-        let late = apart(reference - 1000000000, previous.reference);
-        let valid = settings.calm(moved, late);
-        self.accept(
-            settings,
-            self.origin,
-            Sample {
-                reference,
-                y,
-                valid,
-            },
-        )
-    }
-
-    // A sample after another: BACK, RANGE, then as above. `offset` is clock - reference. Whatever the origin is, y is made only once it is
-    // known to be below a second.
-    fn follow(self, settings: Settings, previous: Sample, reference: i64, offset: i64) -> Taken
-        requires { ⌜ pos 0 ≤ℤ reference ⌝ }
-        ensures { λ r. ⌜ r ≡ leaves settings self (judged settings (self .origin) previous reference (offset -ℤ self .origin)) ⌝ }
-    {
-        if reference <= previous.reference {
-            return wiped(Answer::Back);
-        }
-        if 1000000000 <= apart(offset, self.origin) {
-            return wiped(Answer::Range);
-        }
-        let y = offset - self.origin;
-        self.settle(settings, previous, reference, y as i32)
-    }
-
     // A second pulse: its stamp by the free oscillator, the reference, and by the steered clock.
     pub fn take(self, settings: Settings, reference: i64, clock: i64) -> Taken
         ensures { λ r. ⌜ r ≡ takes settings self reference clock ⌝ }
     {
-        if outside(reference) {
-            return Taken {
+        let empty = self.window.len == 0;
+        match judge(
+            settings,
+            empty,
+            self.origin,
+            self.window.newest(),
+            reference,
+            clock,
+        ) {
+            Verdict::Refused => Taken {
                 answer: Answer::Refused(Refusal::Tick),
                 watch: self,
-            };
+            },
+            Verdict::Wipes(answer) => Taken {
+                answer,
+                watch: Watch::fresh(),
+            },
+            Verdict::Takes(origin, s) => self.accept(settings, origin, s),
         }
-        if outside(clock) {
-            return Taken {
-                answer: Answer::Refused(Refusal::Tick),
-                watch: self,
-            };
-        }
-        let offset = clock - reference;
-        if self.window.len == 0 {
-            return self.accept(
-                settings,
-                offset,
-                Sample {
-                    reference,
-                    y: 0,
-                    valid: true,
-                },
-            );
-        }
-        self.follow(settings, self.window.newest(), reference, offset)
     }
 
     // The line, once it is due.

@@ -57,7 +57,7 @@ fn barred(announce: Announce, domain: u8, own: Port, last: u64, now: u64) -> Ver
 }
 
 // The refusals that look into the table; an Announce that none of them meets takes its place there.
-fn seat(table: Table, announce: Announce, interval: u32, now: u64) -> Admitted
+fn seat(mut table: Table, announce: Announce, interval: u32, now: u64) -> Admitted
     ensures { λ r. ⌜ r ≡ seatedOf table announce interval now ⌝ }
 {
     let home = table.home(announce.header.source, now, interval);
@@ -69,20 +69,18 @@ fn seat(table: Table, announce: Announce, interval: u32, now: u64) -> Admitted
                 table,
             };
         }
-        let mut renewed = table;
-        renewed.records[home] = known.renewed(announce, now);
+        table.records[home] = known.renewed(announce, now);
         return Admitted {
             answer: Answer::Renewed(home),
-            table: renewed,
+            table,
         };
     }
     let free = table.free(now, interval);
     if free < 5 {
-        let mut entered = table;
-        entered.records[free] = Record::entered(announce, now);
+        table.records[free] = Record::entered(announce, now);
         return Admitted {
             answer: Answer::Entered(free),
-            table: entered,
+            table,
         };
     }
     Admitted {

@@ -26,11 +26,11 @@ returns c =
 renewed-requires : tie.Need-renewed-requires
 renewed-requires c κs = search needs
 
-mul-t13 : tie.Need-mul-t13
-mul-t13 c = search needs
+mul-t11 : tie.Need-mul-t11
+mul-t11 c = search needs
 
-element-set-from-renewed : tie.Need-element-set-from-renewed
-element-set-from-renewed c = search needs
+element-set-from-table : tie.Need-element-set-from-table
+element-set-from-table c = search needs
 
 returns-2 : tie.Need-returns-2
 returns-2 c =
@@ -43,11 +43,11 @@ free-requires c κs = search needs
 entered-requires : tie.Need-entered-requires
 entered-requires c κs = search needs
 
-mul-t27 : tie.Need-mul-t27
-mul-t27 c = search needs
+mul-t24 : tie.Need-mul-t24
+mul-t24 c = search needs
 
-element-set-from-entered : tie.Need-element-set-from-entered
-element-set-from-entered c = search needs
+element-set-from-table-2 : tie.Need-element-set-from-table-2
+element-set-from-table-2 c = search needs
 
 returns-3 : tie.Need-returns-3
 returns-3 c =
@@ -69,12 +69,12 @@ seat-spec =
     element-copy-out-known
     returns
     renewed-requires
-    mul-t13
-    element-set-from-renewed
+    mul-t11
+    element-set-from-table
     returns-2
     free-requires
     entered-requires
-    mul-t27
-    element-set-from-entered
+    mul-t24
+    element-set-from-table-2
     returns-3
     returns-4)

@@ -1,7 +1,6 @@
 -- What is common to every call but a pulse, at the card: its effect is fair, and so what `after` puts in place is what the effect says.
 use mathlib.Core.Path.{_≡_, refl}
 use mathlib.Core.Bool.{cond}
-use mathlib.Core.Logic.{inl, inr}
 use Prim.Native.Nat.{ℕ, _+_, _≤_}
 use native.Mathlib.Omega.{arith}
 use lib.IntN.{ℤ}
@@ -23,9 +22,11 @@ use Rattle.unit.specs.declared.calls.Call.{Call}
 use Rattle.unit.specs.declared.calls.Call.the-variants.{Receive, Request, Sent, Time, Reset, Tick, Line, Show}
 use Rattle.unit.specs.Effects.{Stays, Ran, Effect, keeps, goes, takes, wipes, staysOf, ranOf, movedBy, watchBy}
 use Rattle.unit.specs.Hearing.{heardAs}
+use Rattle.unit.proofs.Unheard.{not-announce}
 use Rattle.unit.proofs.Fair.{steering, Fair, fair-heard, fair-announce, fair-request, fair-sent, fair-time}
 use Rattle.card.specs.declared.Card.{Card}
-use Rattle.card.specs.Calls.{byKind, tableBy, effectOf, leftBy, putBy, applied, effectOn, tableOn, stepOf}
+use Rattle.unit.specs.Receiving.{byKind, tableBy}
+use Rattle.card.specs.Calls.{effectOf, leftBy, putBy, applied, effectOn, tableOn, stepOf}
 
 -- a pulse takes a sample, or wipes: the watch's laws speak of it
 abbrev pub Fairly : ℕ → Call → Effect → Type 0
@@ -75,10 +76,6 @@ module _ (c : Card) where
   pub put-call : (call : Call) → Fair most (effectOn c call)
       → leftBy (movedBy (c .unit) (c .servo) (effectOn c call)) (tableOn c call) (cond (movedBy (c .unit) (c .servo) (effectOn c call) .wipes) freshWatch (c .watch)) ≡ stepOf c call
   put-call call f = put (tableOn c call) (effectOn c call) f
-
-  not-announce : OneOf (0 ∷ 1 ∷ 2 ∷ 3 ∷ []) 4 → ⊥
-  not-announce o =
-      elim o [ inl e ↦ omega (arith, e) | inr o ↦ elim o [ inl e ↦ omega (arith, e) | inr o ↦ elim o [ inl e ↦ omega (arith, e) | inr e ↦ omega (arith, e) ] ] ]
 
   -- a message of any kind but the Announce, whose number is 4 among the kinds as they are declared
   pub put-heard : (now : ℕ) (arrival : Stamp) (h : Header) (b : Body) → OneOf (0 ∷ 1 ∷ 2 ∷ 3 ∷ []) (tagOf the-type b)

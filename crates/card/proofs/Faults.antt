@@ -14,7 +14,8 @@ use Rattle.unit.specs.declared.calls.Call.the-variants.{Receive, Request, Sent,
 use Rattle.unit.specs.Effects.{Effect, keeps, goes, takes, wipes, staysOf, ranOf}
 use Rattle.unit.proofs.Lasting.{Lasting, lasts-announce, lasts-time, lasts-heard, lasts-request, lasts-sent, lasts-tick}
 use Rattle.card.specs.declared.Card.{Card}
-use Rattle.card.specs.Calls.{byKind, applied, effectOn, tableOn, stepOf}
+use Rattle.unit.specs.Receiving.{byKind}
+use Rattle.card.specs.Calls.{applied, effectOn, tableOn, stepOf}
 
 module _ (c : Card) (faulty : c .unit .domain .faulty ≡ true) where
   lasts-kind : (now : ℕ) (t2 : Stamp) (h : Header) (b : Body)

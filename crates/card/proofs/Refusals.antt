@@ -27,7 +27,8 @@ use Rattle.unit.specs.Ticking.{ticks}
 use Rattle.unit.proofs.Pulses.{byTest, every-outcome}
 use Rattle.unit.proofs.Fair.{Fair}
 use Rattle.card.specs.declared.Card.{Card}
-use Rattle.card.specs.Calls.{byKind, tableBy, applied, effectOn, tableOn}
+use Rattle.unit.specs.Receiving.{byKind, tableBy}
+use Rattle.card.specs.Calls.{applied, effectOn, tableOn}
 use Rattle.card.proofs.Fairly.{most, fair}
 
 pub never : false ≡ true → ⊥

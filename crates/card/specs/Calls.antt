@@ -3,9 +3,6 @@ use Prim.Native.Nat.{ℕ}
 use mathlib.Core.Bool.{cond}
 use lib.IntN.{ℤ}
 use Rattle.numbers.specs.declared.stamp.Stamp.{Stamp}
-use Rattle.layout.specs.declared.message.Header.{Header}
-use Rattle.layout.specs.declared.message.Body.{Body}
-use Rattle.layout.specs.declared.message.Body.the-variants as bodies
 use Rattle.layout.specs.declared.message.Message.{Message}
 use Rattle.masters.specs.declared.table.Table.{Table}
 use Rattle.masters.specs.Places.{emptyTable}
@@ -20,29 +17,13 @@ use Rattle.unit.specs.declared.calls.Call.the-variants.{Receive, Request, Sent,
 use Rattle.unit.specs.declared.calls.Answer.the-variants.{Wiped, Shows}
 use Rattle.unit.specs.Wipe.{freshServo, freshUnit}
 use Rattle.unit.specs.Effects.{Stays, Ran, Effect, keeps, wipes, unlocked, staysOf, ranOf, movedBy, watchBy}
-use Rattle.unit.specs.Choosing.{admission, announces, times}
+use Rattle.unit.specs.Choosing.{times}
 use Rattle.unit.specs.Measuring.{requests, sends}
-use Rattle.unit.specs.Hearing.{heardAs}
+use Rattle.unit.specs.Receiving.{byKind, tableBy}
 use Rattle.unit.specs.Ticking.{ticks, lineBy}
 use Rattle.unit.specs.Showing.{showsOf}
 use Rattle.card.specs.declared.Card.{Card}
 use Rattle.card.specs.declared.Stepped.{Stepped}
-
--- a message, by its kind: an Announce meets the table
-abbrev pub byKind : Settings → Stays → Ran → Table → ℕ → Stamp → Header → Body → Effect
-byKind s k r t now arrival h (bodies.Announce stamp offer) = announces s k r t now (record { header = h; stamp = stamp; offer = offer })
-byKind s k r t now arrival h (bodies.DelayReq stamp) = heardAs s k r now arrival h (bodies.DelayReq stamp)
-byKind s k r t now arrival h (bodies.Sync t1) = heardAs s k r now arrival h (bodies.Sync t1)
-byKind s k r t now arrival h (bodies.FollowUp t1) = heardAs s k r now arrival h (bodies.FollowUp t1)
-byKind s k r t now arrival h (bodies.DelayResp t4 requester) = heardAs s k r now arrival h (bodies.DelayResp t4 requester)
-
--- the table after it: only an Announce changes it, and one that is refused does not
-abbrev pub tableBy : Settings → Stays → Table → ℕ → Header → Body → Table
-tableBy s k t now h (bodies.Announce stamp offer) = admission s k t now (record { header = h; stamp = stamp; offer = offer }) .table
-tableBy s k t now h (bodies.DelayReq stamp) = t
-tableBy s k t now h (bodies.Sync t1) = t
-tableBy s k t now h (bodies.FollowUp t1) = t
-tableBy s k t now h (bodies.DelayResp t4 requester) = t
 
 -- what a call does where k stays, r ran, t is the table and so many wipes were counted, `pulse` being what the samples since the wipe make of a
 -- pulse, and `line` their line

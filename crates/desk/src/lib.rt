@@ -14,8 +14,6 @@ use calls::Call;
 use calls::Store;
 use card::Card;
 use card::request_into;
-use layout::message::Port;
-use numbers::units::Ppb;
 use settings::Settings;
 use text::Out;
 use text::octets_field;
@@ -75,34 +73,12 @@ impl Desk {
     pub fn bare() -> Desk
         ensures { λ r. ⌜ r .at ≡ 0 ⌝ }
     {
-        let own = Port {
-            clock: 0,
-            number: 0,
-        };
-        let watch = watch::settings::Settings {
-            window: 0,
-            minimum: 0,
-            holdoff: 0,
-            tolerance: 0,
-            spike: 0,
-            jump: 0,
-        };
-        let settings = Settings {
-            domain: 0,
-            own,
-            announce: 0,
-            sync: 0,
-            kp: 0,
-            ki: 0,
-            limit: Ppb(0),
-            watch,
-        };
         Desk {
             length: 0,
             lent: 5,
             at: 0,
             made: false,
-            card: Card::fresh(settings),
+            card: Card::fresh(Settings::bare()),
         }
     }
 

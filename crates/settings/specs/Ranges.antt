@@ -66,3 +66,17 @@ narrowedOf g =
             jump = min 999999999 (up (g .jump));
           };
     }
+
+-- the settings of no unit
+abbrev pub bareSettings : Settings
+bareSettings =
+    record {
+      domain = 0;
+      own = record { clock = 0; number = 0 };
+      announce = 0;
+      sync = 0;
+      kp = 0;
+      ki = 0;
+      limit = record { 0 = pos 0 };
+      watch = record { window = 0; minimum = 0; holdoff = 0; tolerance = 0; spike = 0; jump = 0 };
+    }

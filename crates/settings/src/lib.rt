@@ -3,7 +3,7 @@ ghost use mathlib.Core.Path.{_≡_};
 ghost use mathlib.Core.Bool.{_&&_};
 ghost use Prim.Native.Nat.{min};
 ghost use Rattle.numbers.specs.Integers.{up};
-ghost use Rattle.settings.specs.Ranges.{isBetween, steersIn, watchesIn, narrowedOf, settingsOf};
+ghost use Rattle.settings.specs.Ranges.{isBetween, steersIn, watchesIn, narrowedOf, settingsOf, bareSettings};
 use layout::message::Port;
 use numbers::refusal::Refusal;
 use numbers::units::Ppb;
@@ -41,6 +41,36 @@ pub struct Given {
 pub enum Set {
     Accepted(Settings),
     Refused(Refusal),
+}
+
+impl Settings {
+    // The settings of no unit: zeros.
+    pub fn bare() -> Settings
+        ensures { λ r. ⌜ r ≡ bareSettings ⌝ }
+    {
+        let own = Port {
+            clock: 0,
+            number: 0,
+        };
+        let watch = watch::settings::Settings {
+            window: 0,
+            minimum: 0,
+            holdoff: 0,
+            tolerance: 0,
+            spike: 0,
+            jump: 0,
+        };
+        Settings {
+            domain: 0,
+            own,
+            announce: 0,
+            sync: 0,
+            kp: 0,
+            ki: 0,
+            limit: Ppb(0),
+            watch,
+        }
+    }
 }
 
 fn between(low: i64, x: i64, high: i64) -> bool

@@ -1,9 +1,7 @@
 -- A message of any kind but the Announce is heard without the table.
 use mathlib.Core.Path.{_≡_, refl}
-use mathlib.Core.Logic.{inl, inr}
 use mathlib.Core.List.{[], _∷_}
 use Prim.Native.Nat.{ℕ}
-use native.Mathlib.Omega.{arith}
 use types.Run.{OneOf}
 use denote.Enum.Declared.{tagOf}
 use Rattle.numbers.specs.declared.stamp.Stamp.{Stamp}
@@ -14,15 +12,13 @@ use Rattle.layout.proofs.message.Body.{the-type}
 use Rattle.masters.specs.declared.table.Table.{Table}
 use Rattle.servo.specs.declared.Servo.{Servo}
 use Rattle.unit.specs.declared.Unit.{Unit as Held}
-use Rattle.steps.specs.Steps.{kindHeard, receivedOf}
-
--- the Announce is the fifth kind as they are declared
-not-announce : OneOf (0 ∷ 1 ∷ 2 ∷ 3 ∷ []) 4 → ⊥
-not-announce o =
-    elim o [ inl e ↦ omega (arith, e) | inr o ↦ elim o [ inl e ↦ omega (arith, e) | inr o ↦ elim o [ inl e ↦ omega (arith, e) | inr e ↦ omega (arith, e) ] ] ]
+use Rattle.unit.specs.Effects.{staysOf, ranOf, movedBy}
+use Rattle.unit.specs.Hearing.{heardAs}
+use Rattle.unit.proofs.Unheard.{not-announce}
+use Rattle.steps.specs.Steps.{laidBy, receivedOf}
 
 pub heard-alone : (u : Held) (v : Servo) (t : Table) (now : ℕ) (arrival : Stamp) (h : Header) (b : Body) → OneOf (0 ∷ 1 ∷ 2 ∷ 3 ∷ []) (tagOf the-type b)
-    → kindHeard u v t now arrival h b ≡ receivedOf u v t now arrival h b
+    → laidBy (movedBy u v (heardAs (u .settings) (staysOf u) (ranOf u v) now arrival h b)) t ≡ receivedOf u v t now arrival h b
 heard-alone u v t now arrival h (Sync s) o = refl
 heard-alone u v t now arrival h (DelayReq s) o = refl
 heard-alone u v t now arrival h (FollowUp s) o = refl

@@ -10,7 +10,6 @@ use Rattle.numbers.specs.Refusals.{numberOf}
 use Rattle.layout.specs.declared.message.Header.{Header}
 use Rattle.layout.specs.declared.message.Body.{Body}
 use Rattle.layout.specs.declared.message.Body.the-variants as bodies
-use Rattle.masters.specs.declared.record.Announce.{Announce}
 use Rattle.masters.specs.declared.record.Record.{Record}
 use Rattle.masters.specs.declared.table.Table.{Table}
 use Rattle.masters.specs.Records.{emptyRecord}
@@ -26,12 +25,12 @@ use Rattle.settings.specs.declared.Given.{Given}
 use Rattle.settings.specs.declared.Set.{Set}
 use Rattle.settings.specs.declared.Set.the-variants as sets
 use Rattle.unit.specs.declared.calls.Answer.the-variants.{Wiped, Shows}
-use Rattle.settings.specs.Ranges.{settingsOf}
+use Rattle.settings.specs.Ranges.{settingsOf, bareSettings}
 use Rattle.unit.specs.Wipe.{freshServo, freshUnit}
 use Rattle.unit.specs.Effects.{staysOf, ranOf, unlocked, wipedBy, movedBy, tickedBy}
-use Rattle.unit.specs.Choosing.{admission, announces, times}
+use Rattle.unit.specs.Choosing.{times}
 use Rattle.unit.specs.Measuring.{requests, sends}
-use Rattle.unit.specs.Hearing.{heardAs}
+use Rattle.unit.specs.Receiving.{byKind, tableBy}
 use Rattle.unit.specs.Ticking.{ticks, lineBy}
 use Rattle.unit.specs.Showing.{showsOf}
 use Rattle.words.specs.declared.answers.AnswerWords.{AnswerWords}
@@ -68,20 +67,9 @@ laid u v t a w =
 abbrev pub laidBy : Moved → Table → Heard
 laidBy m t = laid (m .unit) (m .servo) t (answerWords (m .answer)) (m .wipes)
 
--- every kind but an Announce leaves the table as it was
-abbrev pub kindHeard : Unit → Servo → Table → ℕ → Stamp → Header → Body → Heard
-kindHeard u v t now arrival h b = laidBy (movedBy u v (heardAs (u .settings) (staysOf u) (ranOf u v) now arrival h b)) t
-
-abbrev pub announced : Unit → Servo → Table → ℕ → Announce → Heard
-announced u v t now m =
-    laidBy (movedBy u v (announces (u .settings) (staysOf u) (ranOf u v) t now m)) (admission (u .settings) (staysOf u) t now m .table)
-
 abbrev pub receivedOf : Unit → Servo → Table → ℕ → Stamp → Header → Body → Heard
-receivedOf u v t now arrival h (bodies.Sync s) = kindHeard u v t now arrival h (bodies.Sync s)
-receivedOf u v t now arrival h (bodies.DelayReq s) = kindHeard u v t now arrival h (bodies.DelayReq s)
-receivedOf u v t now arrival h (bodies.FollowUp s) = kindHeard u v t now arrival h (bodies.FollowUp s)
-receivedOf u v t now arrival h (bodies.DelayResp s p) = kindHeard u v t now arrival h (bodies.DelayResp s p)
-receivedOf u v t now arrival h (bodies.Announce s o) = announced u v t now (record { header = h; stamp = s; offer = o })
+receivedOf u v t now arrival h b =
+    laidBy (movedBy u v (byKind (u .settings) (staysOf u) (ranOf u v) t now arrival h b)) (tableBy (u .settings) (staysOf u) t now h b)
 
 abbrev pub hearing : Unit → Servo → Table → Hears → Heard
 hearing u v t (hears.Receive now arrival m) = receivedOf u v t now arrival (m .header) (m .body)
@@ -150,19 +138,6 @@ requestedOf u now room =
     requestedBy (movedBy u (freshServo (u .settings)) (requests (u .settings) (staysOf u) (ranOf u (freshServo (u .settings))) now room))
 
 -- ---- the making of a unit
-abbrev pub bareSettings : Settings
-bareSettings =
-    record {
-      domain = 0;
-      own = record { clock = 0; number = 0 };
-      announce = 0;
-      sync = 0;
-      kp = 0;
-      ki = 0;
-      limit = record { 0 = pos 0 };
-      watch = record { window = 0; minimum = 0; holdoff = 0; tolerance = 0; spike = 0; jump = 0 };
-    }
-
 abbrev pub madeWith : ℕ → Settings → Made
 madeWith n s = record { refused = n; unit = freshUnit s; servo = freshServo s }
 

@@ -2,16 +2,14 @@
 ghost use mathlib.Core.Path.{_≡_};
 ghost use lib.ListN.{length};
 ghost use Rattle.unit.specs.Frame.{frameAfter};
-ghost use Rattle.steps.specs.Steps.{laid, laidBy, receivedOf, heardOf, untabledOf, turnedBy, saidBy, turnOf, tickOf, toldBy, pulseOf, requestedOf, bareSettings, madeWith, madeOf};
+ghost use Rattle.steps.specs.Steps.{laid, laidBy, receivedOf, heardOf, untabledOf, turnedBy, saidBy, turnOf, tickOf, toldBy, pulseOf, requestedOf, madeWith, madeOf};
 use layout::message::Body;
 use layout::message::Message;
-use layout::message::Port;
 use masters::record::Announce;
 use masters::record::Record;
 use masters::table::Table;
 use numbers::refusal::Refusal;
 use numbers::stamp::Stamp;
-use numbers::units::Ppb;
 use servo::Servo;
 use settings::Given;
 use settings::Set;
@@ -246,34 +244,6 @@ pub fn request(unit: Unit, frame: &mut [u8], time: u64) -> Requested
     }
 }
 
-// The settings of no unit.
-fn bare() -> Settings
-    ensures { λ r. ⌜ r ≡ bareSettings ⌝ }
-{
-    let own = Port {
-        clock: 0,
-        number: 0,
-    };
-    let watch = watch::settings::Settings {
-        window: 0,
-        minimum: 0,
-        holdoff: 0,
-        tolerance: 0,
-        spike: 0,
-        jump: 0,
-    };
-    Settings {
-        domain: 0,
-        own,
-        announce: 0,
-        sync: 0,
-        kp: 0,
-        ki: 0,
-        limit: Ppb(0),
-        watch,
-    }
-}
-
 fn made_with(refused: u8, settings: Settings) -> Made
     ensures { λ r. ⌜ r ≡ madeWith refused settings ⌝ }
 {
@@ -290,6 +260,6 @@ pub fn make(given: Given) -> Made
 {
     match given.accepted() {
         Set::Accepted(settings) => made_with(0, settings),
-        Set::Refused(number) => made_with(number.number(), bare()),
+        Set::Refused(number) => made_with(number.number(), Settings::bare()),
     }
 }

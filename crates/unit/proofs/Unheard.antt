@@ -19,6 +19,11 @@ use Rattle.exchange.specs.declared.Answer.the-variants.{Refused}
 use Rattle.exchange.specs.declared.Answered.{Answered}
 use Rattle.unit.specs.Hearing.{kindBars, handed}
 
+-- what is left of the kinds beside an Announce does not have its number
+pub not-announce : OneOf (0 ∷ 1 ∷ 2 ∷ 3 ∷ []) 4 → ⊥
+not-announce o =
+    elim o [ inl e ↦ omega (arith, e) | inr o ↦ elim o [ inl e ↦ omega (arith, e) | inr o ↦ elim o [ inl e ↦ omega (arith, e) | inr e ↦ omega (arith, e) ] ] ]
+
 abbrev pub Unheard : Body → Type 0
 Unheard b = OneOf (1 ∷ 4 ∷ []) (tagOf the-type b)
 

@@ -5,5 +5,6 @@ pub mod Measuring
 pub mod Ticking
 pub mod Showing
 pub mod Hearing
+pub mod Receiving
 pub mod Frame
 pub mod Refusing

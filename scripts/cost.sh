@@ -1,9 +1,9 @@
 #!/usr/bin/env bash
 # What the calls of the door cost: instructions, stack, text and state, and linuxptp's instructions for like work. docs/COST.md has them.
 # Usage: scripts/cost.sh
-# Needs an x86-64 Debian machine with the kit (rt, or what RT names), gcc, binutils, python3, valgrind and dpkg-dev. LIB names a library
-# that is built already, LINUXPTP a folder with linuxptp's source; else it is got from the machine's own package sources, into a
-# temporary folder. The counts are the same at each run with the same kit and gcc.
+# Needs a Debian machine with the kit (rt, or what RT names), python3 and dpkg-dev; where it is x86-64 gcc, binutils and valgrind, else
+# gcc-x86-64-linux-gnu and qemu-user. LIB names a library that is built already, LINUXPTP a folder with linuxptp's source; else it is got
+# from the machine's own package sources, into a temporary folder. The counts are the same at each run with the same kit and gcc.
 set -euo pipefail
 [ $# = 0 ] || { sed -n '2,6s/^# //p' "$0" >&2; exit 2; }
 [ -z "${LIB:-}" ] || LIB=$(realpath "$LIB")
@@ -13,6 +13,14 @@ work=$(mktemp -d)
 trap 'rm -rf "$work"' EXIT
 [ -n "${LIB:-}" ] || { "${RT:-rt}" staticlib lent >&2; LIB=$PWD/target/staticlib/liblent.a; }
 cost=$PWD/scripts/cost
+tools= link=-Wl,-z,now traced= run=
+if [ "$(uname -m)" != x86_64 ]; then
+  tools=x86_64-linux-gnu- link="-no-pie $link" traced=-DTRACED run="qemu-x86_64 -L /usr/x86_64-linux-gnu"
+fi
+export OBJDUMP="${OBJDUMP:-${tools}objdump}"
+
+# compile WORDS..: C for x86-64
+compile() { "${tools}gcc" -O2 $traced "$@"; }
 
 # linuxptp's source by the machine's package sources, asked for sources; no setting of the machine is changed
 fetch() {
@@ -29,35 +37,40 @@ fetch() {
   LINUXPTP=$work/linuxptp
 }
 
-# count PROGRAM FUNCTION..: the table of the program's counted calls, collected within the functions
+# count PROGRAM OBJECTS FUNCTION..: the table of the program's counted calls: what is run within the functions, which the objects hold.
+# clock_gettime among them is what is left out: to enter it ends counting, to leave it goes on.
 count() {
-  local program=$1 function toggles=()
-  shift
+  local program=$1 objects=$2 function toggles=()
+  shift 2
+  echo "| Call | Instructions | Of them copying, comparing |"
+  echo "|---|---|---|"
+  if [ -n "$traced" ]; then
+    python3 "$cost/trace.py" "$program" $objects -- "$@"
+    return
+  fi
   for function in "$@"; do toggles+=("--toggle-collect=$function"); done
   valgrind --tool=callgrind --callgrind-out-file="$program.dump" "${toggles[@]}" "$program" >"$work/log" 2>&1 ||
     { cat "$work/log" >&2; exit 1; }
-  echo "| Call | Instructions | Of them copying, comparing |"
-  echo "|---|---|---|"
   python3 "$cost/table.py" "$program".dump.*
 }
 
-gcc -O2 -fno-builtin -fno-tree-vectorize -fno-tree-loop-distribute-patterns -c "$cost/plain.c" -o "$work/plain.o"
-gcc -std=c11 -O2 -Wall -Wextra -Idoor -I"$cost" "$cost/ours.c" "$work/plain.o" "$LIB" -Wl,-z,now -o "$work/ours"
+compile -fno-builtin -fno-tree-vectorize -fno-tree-loop-distribute-patterns -c "$cost/plain.c" -o "$work/plain.o"
+compile -std=c11 -Wall -Wextra -Idoor -I"$cost" "$cost/ours.c" "$work/plain.o" "$LIB" $link -o "$work/ours"
 echo "## Instructions of the door"
-count "$work/ours" sinezhab_{read,write,make,watch,record,hear,turn,pulse,request} | tee "$work/ours.table"
+count "$work/ours" "$LIB" sinezhab_{read,write,make,watch,record,hear,turn,pulse,request} | tee "$work/ours.table"
 
 [ -n "${LINUXPTP:-}" ] || fetch
 cd "$LINUXPTP"
 defines=$(./incdefs.sh)
 for part in msg tlv bmc pi mmedian filter print; do
-  gcc -O2 -w -ffunction-sections $defines -DVER=0 -c $part.c -o "$work/$part.o"
+  compile -w -ffunction-sections $defines -DVER=0 -c $part.c -o "$work/$part.o"
 done
-gcc -O2 -w -ffunction-sections $defines -I. -I"$cost" -c "$cost/linuxptp.c" -o "$work/driver.o"
-gcc "$work"/{driver,msg,tlv,bmc,pi,mmedian,filter,print,plain}.o -Wl,--gc-sections -Wl,-z,now -lm -o "$work/theirs"
+compile -w -ffunction-sections $defines -I. -I"$cost" -c "$cost/linuxptp.c" -o "$work/driver.o"
+compile "$work"/{driver,msg,tlv,bmc,pi,mmedian,filter,print,plain}.o -Wl,--gc-sections $link -lm -o "$work/theirs"
 cd - >/dev/null
 echo
 echo "## Instructions of linuxptp $(sed -n '1s/.*(\(.*\)).*/\1/p' "$LINUXPTP/debian/changelog" 2>/dev/null)"
-count "$work/theirs" msg_post_recv dscmp pi_sample mmedian_sample | tee "$work/theirs.table"
+count "$work/theirs" "$(echo "$work"/{msg,tlv,bmc,pi,mmedian,filter,print}.o)" msg_post_recv dscmp pi_sample mmedian_sample clock_gettime | tee "$work/theirs.table"
 
 echo
 echo "## Deepest stack, octets"
@@ -65,12 +78,12 @@ python3 "$cost/stack.py" "$LIB" sinezhab_ | tee "$work/stack"
 
 echo
 echo "## Library and state, octets"
-code=$(size -A "$LIB" | awk '/^\.text/ { n += $2 } END { print n + 0 }')
-data=$(size -A "$LIB" | awk '/^\.rodata/ { n += $2 } END { print n + 0 }')
-asks=$(nm -u "$LIB" 2>/dev/null | awk '/ U / { print $2 }' | sort -u | tr '\n' ' ')
+code=$("${tools}size" -A "$LIB" | awk '/^\.text/ { n += $2 } END { print n + 0 }')
+data=$("${tools}size" -A "$LIB" | awk '/^\.rodata/ { n += $2 } END { print n + 0 }')
+asks=$("${tools}nm" -u "$LIB" 2>/dev/null | awk '/ U / { print $2 }' | sort -u | tr '\n' ' ')
 echo "code $code, constants $data; asks of the C library: $asks"
-gcc -std=c11 -Idoor -Wall -Wextra "$cost/sizes.c" -o "$work/sizes"
-"$work/sizes" | tee "$work/state"
+compile -std=c11 -Idoor -Wall -Wextra "$cost/sizes.c" $link -o "$work/sizes"
+$run "$work/sizes" | tee "$work/state"
 
 # held NAME FIGURE LIMIT: says whether the figure is within the target
 held() { echo "$1: $2, target $3: $([ "$2" -le "$3" ] && echo met || echo missed)"; }

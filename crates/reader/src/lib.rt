@@ -106,6 +106,7 @@ fn wide(x: u16) -> usize
 }
 
 // The message with every field and where its suffix lies, or the first refusal that holds. Octets past messageLength are padding.
+// The suffix is walked before a field is read, so that no field has to be kept meanwhile (docs/COST.md).
 pub fn read(s: &[u8]) -> Read
     ensures { λ r. ⌜ r ≡ readOf (now (s .entry)) ⌝ }
 {
@@ -127,12 +128,13 @@ pub fn read(s: &[u8]) -> Read
     if s.len() < length {
         return Read::Refused(Refusal::Short);
     }
+    let suffixed = whole(&s[fixed..length]);
     let body = body_of(s, kind);
     let stamp = body.stamp();
     if 999999999 < stamp.nanoseconds {
         return Read::Refused(Refusal::Field);
     }
-    if whole(&s[fixed..length]) {
+    if suffixed {
         let header = header_of(s);
         Read::Got(
             Message { header, body },

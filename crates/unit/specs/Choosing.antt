@@ -27,13 +27,14 @@ choosing k now c = record { now = now; chosen = c; faulty = k .faulty; sequence 
 abbrev pub admission : Settings → Stays → Table → ℕ → Announce → Admitted
 admission s k t now m = admittedOf t m (s .domain) (s .own) (s .announce) (k .now) now
 
+-- this master, or none, is chosen: "A wipe (new or lost master, ..)"
+abbrev pub holds : Stays → Ran → ℕ → Chosen → Effect
+holds k r now c = cond (sameMasterOf (k .chosen) c) (goes (Chose c) (choosing k now c) r) (wipes (Changed c) (choosing k now c))
+
 module _ (s : Settings) (k : Stays) (r : Ran) (t : Table) (now : ℕ) where
-  -- "the choice is made anew only at an accepted Announce and at a time call .. and is held between"; "A wipe (new or lost master, ..)"
+  -- "the choice is made anew only at an accepted Announce and at a time call .. and is held between"
   unfoldable pub chooses : Effect
-  chooses =
-      cond (sameMasterOf (k .chosen) (masterAt s t now))
-      (goes (Chose (masterAt s t now)) (choosing k now (masterAt s t now)) r)
-      (wipes (Changed (masterAt s t now)) (choosing k now (masterAt s t now)))
+  chooses = holds k r now (masterAt s t now)
 
   -- by the table's answer, where this is the table after it
   abbrev pub admits : Admission → Effect

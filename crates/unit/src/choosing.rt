@@ -1,7 +1,9 @@
 // The calls that make the choice anew: an Announce, and the bare time call.
 ghost use mathlib.Core.Path.{_≡_};
+ghost use Rattle.masters.specs.Choosing.{choiceOf};
+ghost use Rattle.masters.specs.Holding.{chosenOf};
 ghost use Rattle.unit.specs.Effects.{staysOf, ranOf, movedBy};
-ghost use Rattle.unit.specs.Choosing.{admission, chooses, admits, announces, times};
+ghost use Rattle.unit.specs.Choosing.{admission, holds, admits, announces, times};
 use crate::Moved;
 use crate::Seated;
 use crate::Unit;
@@ -15,12 +17,18 @@ use masters::table::Table;
 use numbers::refusal::Refusal;
 use servo::Servo;
 
+// The master at `now` over this table; a is the announce exponent.
+fn master_at(table: Table, now: u64, a: u8) -> Chosen
+    ensures { λ r. ⌜ r ≡ chosenOf (choiceOf (table .records) now a) ⌝ }
+{
+    Chosen::made(choose(table, now, a))
+}
+
 impl Unit {
-    // The choice at `now` over this table. A new or lost master wipes.
-    fn choose(mut self, servo: Servo, table: Table, now: u64) -> Moved
-        ensures { λ r. ⌜ r ≡ movedBy self servo (chooses (self .settings) (staysOf self) (ranOf self servo) table now) ⌝ }
+    // This master, or none, is chosen at `now`. A new or lost one wipes. The table is not handed on: a copy of it would stand here.
+    fn hold(mut self, servo: Servo, chosen: Chosen, now: u64) -> Moved
+        ensures { λ r. ⌜ r ≡ movedBy self servo (holds (staysOf self) (ranOf self servo) now chosen) ⌝ }
     {
-        let chosen = Chosen::made(choose(table, now, self.settings.announce));
         let mut domain = self.domain;
         let before = domain.chosen;
         domain.chosen = chosen;
@@ -38,8 +46,12 @@ impl Unit {
     {
         match answer {
             admission::Answer::Refused(number) => self.refuse(servo, number),
-            admission::Answer::Renewed(_) => self.choose(servo, table, now),
-            admission::Answer::Entered(_) => self.choose(servo, table, now),
+            admission::Answer::Renewed(_) => {
+                self.hold(servo, master_at(table, now, self.settings.announce), now)
+            }
+            admission::Answer::Entered(_) => {
+                self.hold(servo, master_at(table, now, self.settings.announce), now)
+            }
         }
     }
 
@@ -73,6 +85,6 @@ impl Unit {
         if now < self.now {
             return self.refuse(servo, Refusal::Now);
         }
-        self.choose(servo, table, now)
+        self.hold(servo, master_at(table, now, self.settings.announce), now)
     }
 }

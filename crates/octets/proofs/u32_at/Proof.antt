@@ -1,25 +1,49 @@
 -- `u32_at` meets its contract.
+use native.Mathlib.Nat.{add-zero}
 use native.Mathlib.Omega.{arith}
-use Rattle.octets.proofs.Digits.{num-split}
+use Rattle.octets.specs.Octets.{num}
 use borrow.Author.Needs.{needs}
 use Rattle.octets.proofs.u32_at.Statement.{statement}
 use Rattle.octets.proofs.u32_at.Tie as tie
 
-u16-at-requires : tie.Need-u16-at-requires
-u16-at-requires c κs = search needs
+shared-slice-read-four : tie.Need-shared-slice-read-four
+shared-slice-read-four c = search needs
 
-add-u16-at : tie.Need-add-u16-at
-add-u16-at c = search needs
+add-four : tie.Need-add-four
+add-four c = search needs
 
-u16-at-requires-2 : tie.Need-u16-at-requires-2
-u16-at-requires-2 c κs = search needs
+shared-slice-read-four-2 : tie.Need-shared-slice-read-four-2
+shared-slice-read-four-2 c = search needs
 
-join16-requires : tie.Need-join16-requires
-join16-requires c κs = search needs
+add-four-2 : tie.Need-add-four-2
+add-four-2 c = search needs
+
+shared-slice-read-four-3 : tie.Need-shared-slice-read-four-3
+shared-slice-read-four-3 c = search needs
+
+add-four-3 : tie.Need-add-four-3
+add-four-3 c = search needs
+
+shared-slice-read-four-4 : tie.Need-shared-slice-read-four-4
+shared-slice-read-four-4 c = search needs
+
+four-requires : tie.Need-four-requires
+four-requires c κs = search needs
 
 returns : tie.Need-returns
-returns c = let s = c .before .before .before .before .args in omega (arith, num-split 2 2 (s .at) (s .s .now))
+unfolding num
+returns c = rw add-zero (omega arith)
 
 pub u32-at-spec : {M : Type 1} → statement M
 u32-at-spec =
-    tie.close (tie.spec u16-at-requires add-u16-at u16-at-requires-2 join16-requires returns)
+    tie.close
+    (tie.spec
+    shared-slice-read-four
+    add-four
+    shared-slice-read-four-2
+    add-four-2
+    shared-slice-read-four-3
+    add-four-3
+    shared-slice-read-four-4
+    four-requires
+    returns)

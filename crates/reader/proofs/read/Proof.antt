@@ -39,10 +39,10 @@ sized c =
     let l = length-is w in
     record { head = head (w .before .before); fixed = rw (f, l) at (c .before .if4 .left); all = rw l at (c .if5 .left) }
 
-body-is : (c : tie.After-stamp) → c .before .body-of .result ≡ bodyOf (kindIn (octets (c .before .before .before .before .before .before .before))) (octets (c .before .before .before .before .before .before .before))
+body-is : (c : tie.After-stamp) → c .before .body-of .result ≡ bodyOf (kindIn (octets (c .before .before .before .before .before .before .before .before .before))) (octets (c .before .before .before .before .before .before .before .before .before))
 body-is c = c .before .body-of .ensures
 
-nanos-is : (c : tie.After-stamp) → c .stamp .result .nanoseconds ≡ nanos (octets (c .before .before .before .before .before .before .before))
+nanos-is : (c : tie.After-stamp) → c .stamp .result .nanoseconds ≡ nanos (octets (c .before .before .before .before .before .before .before .before .before))
 nanos-is c = ap (λ (t : Stamp). t .nanoseconds) (c .stamp .ensures ∙ ap stampIn (body-is c))
 
 returns : tie.Need-returns
@@ -83,21 +83,6 @@ returns-5 c =
     let h = w .before .before in
     sym (r-cut (octets (h .before)) (head h) (rw (fixed-is (h .before), length-is w) at (c .before .if4 .left)) (rw (length-is w) at (c .if5 .taken)))
 
-body-of-requires : tie.Need-body-of-requires
-body-of-requires c κs =
-    let z = sized c in
-    let s = octets (c .before .before .before .before .before) in
-    (known (kindIn s) (z .head .kind), omega (arith, z .fixed, z .all))
-
-stamp-requires : tie.Need-stamp-requires
-stamp-requires c κs = search needs
-
-returns-6 : tie.Need-returns-6
-returns-6 c =
-    let t = c .before .before in
-    let z = t .before .before in
-    sym (r-field (octets (z .before .before .before .before .before)) (sized z) (rw (nanos-is t) at (c .if6 .taken)))
-
 part-whole-start : tie.Need-part-whole-start
 part-whole-start c = search needs
 
@@ -107,18 +92,34 @@ part-whole-end c = search needs
 whole-requires : tie.Need-whole-requires
 whole-requires c κs = search needs
 
+body-of-requires : tie.Need-body-of-requires
+body-of-requires c κs =
+    let e = c .before .before in
+    let z = sized e in
+    let s = octets (e .before .before .before .before .before) in
+    (known (kindIn s) (z .head .kind), omega (arith, z .fixed, z .all))
+
+stamp-requires : tie.Need-stamp-requires
+stamp-requires c κs = search needs
+
+returns-6 : tie.Need-returns-6
+returns-6 c =
+    let t = c .before .before in
+    let z = t .before .before .before .before in
+    sym (r-field (octets (z .before .before .before .before .before)) (sized z) (rw (nanos-is t) at (c .if6 .taken)))
+
 header-of-requires : tie.Need-header-of-requires
 header-of-requires c κs = search needs
 
 returns-7 : tie.Need-returns-7
 returns-7 c =
-    let e = c .before .before .before .before in
+    let e = c .before .before in
     let t = e .before .before in
-    let z = t .before .before in
+    let z = t .before .before .before .before in
     let w = z .before .before in
     let f = fixed-is (w .before .before .before) in
     let l = length-is w in
-    let o = rw (f, l) at (sym (c .before .before .whole .ensures) ∙ c .before .if7 .taken) in
+    let o = rw (f, l) at (sym (t .before .before .whole .ensures) ∙ c .before .if7 .taken) in
     let h = c .header-of .ensures in
     let b = body-is t in
     rw (r-whole (octets (w .before .before .before)) (sized z) (rw (nanos-is t) at (e .if6 .left)), o)
@@ -126,11 +127,11 @@ returns-7 c =
 
 returns-8 : tie.Need-returns-8
 returns-8 c =
-    let e = c .before .before .before in
+    let e = c .before in
     let t = e .before .before in
-    let z = t .before .before in
+    let z = t .before .before .before .before in
     let w = z .before .before in
-    let o = rw (fixed-is (w .before .before .before), length-is w) at (sym (c .before .whole .ensures) ∙ c .if7 .left) in
+    let o = rw (fixed-is (w .before .before .before), length-is w) at (sym (t .before .before .whole .ensures) ∙ c .if7 .left) in
     rw (r-whole (octets (w .before .before .before)) (sized z) (rw (nanos-is t) at (e .if6 .left)), o)
 
 pub read-spec : {M : Type 1} → statement M
@@ -147,12 +148,12 @@ read-spec =
     wide-requires
     returns-4
     returns-5
-    body-of-requires
-    stamp-requires
-    returns-6
     part-whole-start
     part-whole-end
     whole-requires
+    body-of-requires
+    stamp-requires
+    returns-6
     header-of-requires
     returns-7
     returns-8)

@@ -1,7 +1,7 @@
 -- `Unit::time` meets its contract.
 use borrow.Author.Tests.{lt-ltb, le-ltb}
 use borrow.Author.Needs.{needs}
-use Rattle.unit.specs.Choosing.{times}
+use Rattle.unit.specs.Choosing.{times, chooses}
 use Rattle.unit.proofs.Unit.time.Statement.{statement}
 use Rattle.unit.proofs.Unit.time.Tie as tie
 
@@ -12,12 +12,15 @@ returns : tie.Need-returns
 unfolding times
 returns c = rw (lt-ltb _ _ (c .before .if1 .taken)) (c .refuse .ensures)
 
-choose-requires : tie.Need-choose-requires
-choose-requires c κs = search needs
+master-at-requires : tie.Need-master-at-requires
+master-at-requires c κs = search needs
+
+hold-requires : tie.Need-hold-requires
+hold-requires c κs = search needs
 
 returns-2 : tie.Need-returns-2
-unfolding times
-returns-2 c = rw (le-ltb _ _ (c .before .if1 .left)) (c .choose .ensures)
+unfolding times chooses
+returns-2 c = rw (le-ltb _ _ (c .before .before .if1 .left)) (rw (c .before .master-at .ensures) at (c .hold .ensures))
 
 pub time-spec : {M : Type 1} → statement M
-time-spec = tie.close (tie.spec refuse-requires returns choose-requires returns-2)
+time-spec = tie.close (tie.spec refuse-requires returns master-at-requires hold-requires returns-2)

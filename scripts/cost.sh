@@ -70,7 +70,8 @@ compile "$work"/{driver,msg,tlv,bmc,pi,mmedian,filter,print,plain}.o -Wl,--gc-se
 cd - >/dev/null
 echo
 echo "## Instructions of linuxptp $(sed -n '1s/.*(\(.*\)).*/\1/p' "$LINUXPTP/debian/changelog" 2>/dev/null)"
-count "$work/theirs" "$(echo "$work"/{msg,tlv,bmc,pi,mmedian,filter,print}.o)" msg_post_recv dscmp pi_sample mmedian_sample clock_gettime | tee "$work/theirs.table"
+count "$work/theirs" "$(echo "$work"/{msg,tlv,bmc,pi,mmedian,filter,print}.o)" \
+  msg_post_recv dscmp pi_sample mmedian_sample clock_gettime | tee "$work/theirs.table"
 
 echo
 echo "## Deepest stack, octets"

@@ -1,0 +1,56 @@
+-- What the past of the card, told in records, says of the book.
+use mathlib.Core.Path.{_≡_, refl}
+use mathlib.Core.List.{[]}
+use mathlib.Core.Option.{Option, none, some}
+use mathlib.Core.Bool.{cond}
+use Prim.Native.Nat.{ℕ}
+use Rattle.masters.specs.declared.table.Table.{Table}
+use Rattle.masters.specs.Records.{intervalOf}
+use Rattle.servo.specs.Steps.{limitOf}
+use Rattle.settings.specs.declared.Settings.{Settings}
+use Rattle.unit.specs.declared.calls.Call.{Call}
+use Rattle.unit.specs.declared.calls.Answer.{Answer}
+use Rattle.unit.specs.Effects.{Ran, freshRan, Effect}
+use Rattle.card.specs.Story.{Past, start, became, saying}
+use Rattle.story_exchange.proofs.Tells.{Tells as ExchangeTells, fresh-tells}
+use Rattle.story_servo.specs.Offsets.{machine as servoMachine}
+use Rattle.story_servo.proofs.Refines.{Tells as ServoTells, tells as servo-tells}
+use Rattle.story_masters.specs.History.{log as seatsAfter, machine as seatMachine}
+use Rattle.story_masters.proofs.Refines.{Tells as SeatTells, tells as seat-tells}
+use Rattle.story_lists.specs.Reading.{all, since}
+use Rattle.story.specs.Book.{Book, stood, seats, exchangeLog, offsets, lastMeasured, samples, aheadFirst, samplesOf, wipeCount}
+use Rattle.story.specs.Tale.{written}
+
+abbrev pub measuredRead : Ran → Option ℕ
+measuredRead r = cond (r .measured) (some (r .at)) none
+
+pub record Tells (s : Settings) (b : Book) (p : Past) : Type 0 where
+  pub stays : p .stays ≡ stood b
+  pub seats : SeatTells (intervalOf (s .announce)) (seats s b) (record { table = p .table; last = p .stays .now })
+  pub exchange : ExchangeTells (exchangeLog s b) (p .ran .exchange)
+  pub servo : ServoTells (s .kp) (s .ki) (s .sync) (limitOf (s .limit .0)) (offsets b) (p .ran .servo)
+  pub measured : measuredRead (p .ran) ≡ lastMeasured b
+  pub since : p .since ≡ samples s b
+  pub count : p .count ≡ wipeCount b
+
+pub fresh-servo : (s : Settings) → ServoTells (s .kp) (s .ki) (s .sync) (limitOf (s .limit .0)) [] (freshRan s .servo)
+unfolding servoMachine
+fresh-servo s = servo-tells (s .kp) (s .ki) (s .sync) (limitOf (s .limit .0)) []
+
+pub start-tells : (s : Settings) → Tells s [] (start s)
+unfolding all since aheadFirst samplesOf seatsAfter seatMachine
+start-tells s =
+    record {
+      stays = refl;
+      seats = seat-tells (s .domain) (s .own) (s .announce) [];
+      exchange = fresh-tells;
+      servo = fresh-servo s;
+      measured = refl;
+      since = refl;
+      count = refl;
+    }
+
+-- the story says a, and its past tells the book with one line more
+pub record Agrees (s : Settings) (b : Book) (p : Past) (call : Call) (t : Table) (a : Answer) (e : Effect) : Type 0 where
+  pub says : saying e ≡ a
+  pub tells : Tells s (written call a b) (became s p t e)

@@ -1,0 +1,19 @@
+-- The book after a list of calls, the newest first, and the answer to the next.
+use mathlib.Core.List.{List, [], _∷_}
+use mathlib.Core.Bool.{cond}
+use Rattle.settings.specs.declared.Settings.{Settings}
+use Rattle.unit.specs.declared.calls.Call.{Call}
+use Rattle.unit.specs.declared.calls.Answer.{Answer}
+use Rattle.unit.specs.Refusing.{isRefusal}
+use Rattle.story.specs.Book.{Book, line}
+use Rattle.story.specs.Saying.{answer}
+
+abbrev pub written : Call → Answer → Book → Book
+written call a b = cond (isRefusal a) b (line call a ∷ b)
+
+unfoldable pub book : Settings → List Call → Book
+book s [] = []
+book s (call ∷ before) = written call (answer s (book s before) call) (book s before)
+
+unfoldable pub answerByHistory : Settings → List Call → Call → Answer
+answerByHistory s before call = answer s (book s before) call

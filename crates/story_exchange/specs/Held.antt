@@ -1,0 +1,75 @@
+-- What is held, read off the log: document 01, "The exchange".
+use mathlib.Core.List.{List, [], _∷_}
+use mathlib.Core.Option.{Option, none, some}
+use mathlib.Core.Bool.{Bool, true, false, _&&_}
+use Prim.Native.Nat.{ℕ}
+use Rattle.numbers.specs.declared.stamp.Stamp.{Stamp}
+use Rattle.exchange.specs.Table.{Event}
+use Rattle.story_lists.specs.Reading.{all, since, newest, or-else}
+use Rattle.story_exchange.specs.Log.{Log, events, answers, Origin, ASync, aSync, aFollowUp, aRequest, aT3, aDelayResp, aLocal, Verdict, neg, long, huge, path, accepted, aVerdict, aDelay, aUsed}
+
+-- ---- the halves. "A Delay_Resp .. spends both halves": what came since the last one counts
+abbrev pub unspent : Log → List Event
+unspent l = since aDelayResp (events l)
+
+-- "A Sync with stamp t2 replaces the one held": it is the newest
+abbrev pub heldSync : Log → Option ASync
+heldSync l = newest aSync (unspent l)
+
+-- "One-step: its timestamp is t1. Two-step: a Follow_Up of its sequenceId gives t1": one that came after it
+abbrev pub originOf : Option ASync → List Event → Option Origin
+originOf none es = none
+originOf (some s) es = or-else (s .own) (newest (aFollowUp (s .sequence)) (since aSync es))
+
+abbrev pub origin : Log → Option Origin
+origin l = originOf (heldSync l) (unspent l)
+
+-- "A request is pending from its writing; .. a newer request replaces it": it is the newest
+abbrev pub pending : Log → Option ℕ
+pending l = newest aRequest (unspent l)
+
+-- "t3 is given .. for its sequenceId": one that came after it
+abbrev pub stampOf : Option ℕ → List Event → Option Stamp
+stampOf none es = none
+stampOf (some n) es = newest (aT3 n) (since aRequest es)
+
+abbrev pub t3 : Log → Option Stamp
+t3 l = stampOf (pending l) (unspent l)
+
+-- ---- the last local stamp
+abbrev pub lastLocal : Log → Option Stamp
+lastLocal l = newest aLocal (events l)
+
+-- ---- the finished measurements since the wipe, the newest first
+abbrev pub verdicts : Log → List Verdict
+verdicts l = all aVerdict (answers l)
+
+abbrev pub isHuge : Verdict → Bool
+isHuge neg = false
+isHuge long = false
+isHuge huge = true
+isHuge path = false
+isHuge (accepted d u o) = false
+
+abbrev pub isPath : Verdict → Bool
+isPath neg = false
+isPath long = false
+isPath huge = false
+isPath path = true
+isPath (accepted d u o) = false
+
+-- one more such is "the third in a row": the last two finished measurements were so
+unfoldable pub lastTwo : (Verdict → Bool) → List Verdict → Bool
+lastTwo so [] = false
+lastTwo so (v ∷ []) = false
+lastTwo so (v ∷ w ∷ l) = so v && so w
+
+-- the accepted delays, the last accepted one, and the delay last used
+abbrev pub delays : Log → List ℕ
+delays l = all aDelay (verdicts l)
+
+abbrev pub lastDelay : Log → Option ℕ
+lastDelay l = newest aDelay (verdicts l)
+
+abbrev pub lastUsed : Log → Option ℕ
+lastUsed l = newest aUsed (verdicts l)

@@ -1,0 +1,1 @@
+// The exchange told from its events and their answers. Definitions and theorems; the code is the crate exchange.

@@ -1,0 +1,49 @@
+-- After any offsets the servo's memory is what they say.
+use mathlib.Core.Path.{_≡_, refl, sym, ap, _∙_}
+use mathlib.Core.List.{List, [], _∷_}
+use mathlib.Core.Bool.{Bool, true, false, cond}
+use Prim.Native.Nat.{ℕ}
+use native.Mathlib.Omega.{arith}
+use lib.IntN.{ℤ}
+use lib.ListN.{take}
+use lib.Seq.{take-take}
+use Rattle.servo.specs.declared.Servo.{Servo}
+use Rattle.servo.specs.Offsets.{lastTen, swinging}
+use Rattle.servo.specs.Ten.{listOf}
+use Rattle.servo.specs.Steps.{integralWith, outputWith, steeredBy, halvedFrom, steppedBy}
+use Rattle.servo.proofs.Tens.{noted-list}
+use Rattle.story_servo.specs.Offsets.{current, swings, ten, halved, gained, integral, output, machine}
+
+module _ (kp ki k limit : ℕ) where
+  pub record Tells (l : List ℤ) (s : Servo) : Type 0 where
+    pub proportional : s .kp ≡ halved kp (swings l)
+    pub integrating : s .ki ≡ halved ki (swings l)
+    pub summed : s .integral ≡ integral kp ki k limit l
+    pub held : listOf (s .ten) ≡ ten l
+    pub put : s .output .0 ≡ output kp ki k limit l
+
+  module _ (l : List ℤ) (s : Servo) (h : Tells l s) (x : ℤ) where
+    this-too : lastTen x (listOf (s .ten)) ≡ take 10 (x ∷ current l)
+    this-too = rw (h .held) (ap (λ (r : List ℤ). x ∷ r) (take-take 9 10 (current l) (omega arith)))
+
+    gains : integralWith s x k limit ≡ gained (halved ki (swings l)) k limit (x ∷ current l)
+    unfolding integralWith gained
+    gains = rw (h .summed, h .integrating)
+
+    puts : outputWith s x k limit ≡ output kp ki k limit (x ∷ l)
+    unfolding outputWith
+    puts = rw (gains, h .proportional)
+
+    pub step : Tells (x ∷ l) (steppedBy s x k limit)
+    unfolding steppedBy current swings halved gained
+    step = go (swinging (lastTen x (listOf (s .ten)))) (sym (ap (λ (r : List ℤ). swinging r) this-too))
+      where
+        go : (b : Bool) → swinging (take 10 (x ∷ current l)) ≡ b → Tells (x ∷ l) (cond b (halvedFrom (steeredBy s x k limit)) (steeredBy s x k limit))
+        go true e = record { proportional = rw (e, h .proportional); integrating = rw (e, h .integrating); summed = rw e; held = rw e; put = puts }
+        go false e = record { proportional = rw (e, h .proportional); integrating = rw (e, h .integrating); summed = rw e gains; held = rw e (noted-list (s .ten) x ∙ this-too); put = puts }
+
+  -- the theorem
+  pub tells : (l : List ℤ) → Tells l (machine kp ki k limit l)
+  unfolding machine current swings halved gained
+  tells [] = record { proportional = refl; integrating = refl; summed = refl; held = refl; put = refl }
+  tells (x ∷ before) = step before (machine kp ki k limit before) (tells before) x

@@ -1,6 +1,6 @@
 /* replay.c: plays a list of calls through the door and writes the answers, a line each. docs/BENCH.md has the text's format.
  *
- * It is the program `bench` once more, in C and over liblent.a: the same list must give the same answers. */
+ * It is the program `bench` once more, in C and over libdoor.a: the same list must give the same answers. */
 #include "sinezhab.h"
 
 #include <inttypes.h>

@@ -1,6 +1,6 @@
 /* sinezhab.h: the door of the proved PTP slave core for C.
  *
- * Link with liblent.a (x86-64); it asks memcpy of the C library, and nothing else. Every call ends, allocates nothing and keeps nothing
+ * Link with libdoor.a (x86-64); it asks memcpy of the C library, and nothing else. Every call ends, allocates nothing and keeps nothing
  * beside what you lend it: the state is a unit, its servo, its watch and a table of five records, all yours to place.
  *
  *     struct sinezhab_made made = sinezhab_make(given);                      // refused 0: made.unit and made.servo are fresh
@@ -219,7 +219,7 @@ void sinezhab_pulse(struct sinezhab_unit *unit, struct sinezhab_servo *servo, st
  * written, and only when asked. Send the frame, then give its stamp with SENT. */
 struct sinezhab_answer sinezhab_request(struct sinezhab_unit *unit, uint8_t *frame, size_t length, uint64_t now);
 
-/* The layout that liblent.a was made for. */
+/* The layout that libdoor.a was made for. */
 static_assert(sizeof(struct sinezhab_message) == 136 && offsetof(struct sinezhab_message, from) == 120, "layout of a message");
 static_assert(sizeof(struct sinezhab_servo) == 64 && offsetof(struct sinezhab_servo, output) == 56, "layout of a servo");
 static_assert(sizeof(struct sinezhab_given) == 112, "layout of the settings");

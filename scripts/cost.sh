@@ -11,7 +11,7 @@ set -euo pipefail
 cd "$(dirname "$0")/.."
 work=$(mktemp -d)
 trap 'rm -rf "$work"' EXIT
-[ -n "${LIB:-}" ] || { "${RT:-rt}" staticlib lent >&2; LIB=$PWD/target/staticlib/liblent.a; }
+[ -n "${LIB:-}" ] || { "${RT:-rt}" staticlib door >&2; LIB=$PWD/target/staticlib/libdoor.a; }
 cost=$PWD/scripts/cost
 tools= link=-Wl,-z,now traced= run=
 if [ "$(uname -m)" != x86_64 ]; then

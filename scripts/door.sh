@@ -13,7 +13,7 @@ cd "$(dirname "$0")/.."
 work=$(mktemp -d)
 trap 'rm -rf "$work"' EXIT
 
-[ -n "${LIB:-}" ] || { "${RT:-rt}" staticlib lent >&2; LIB=target/staticlib/liblent.a; }
+[ -n "${LIB:-}" ] || { "${RT:-rt}" staticlib door >&2; LIB=target/staticlib/libdoor.a; }
 compile=gcc
 run=()
 if [ "$(uname -m)" != x86_64 ]; then

@@ -1,6 +1,6 @@
 #!/usr/bin/env python3
 # Writes proofs/F/Proof.antt of a thin function that lends several things at once, from its MIR.
-#     rt mir lent >m; python3 scripts/walks/walk.py scripts/walks/hear.cfg m >crates/lent/proofs/sinezhab_hear/Proof.antt; rt fmt   (from the root; so for turn and pulse)
+#     rt mir door >m; python3 scripts/walks/walk.py scripts/walks/hear.cfg m >crates/door/proofs/sinezhab_hear/Proof.antt; rt fmt   (from the root; so for turn and pulse)
 # Parameters, in any order: `&mut S`, `&S`, `&mut [S; n]` (S a struct or an enum of plain data), at most one `&mut [S]`, and values: structs, enums, arrays of structs, integers, bool.
 # Result: a value of one of these types, or nothing.
 # Statements, in any order and number:

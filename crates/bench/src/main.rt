@@ -1,10 +1,10 @@
 // The bench: reads a list of calls on standard input and writes one line of answer to each.
-use calls::call_of;
-use desk::Desk;
+use bench_calls::call_of;
+use bench_desk::Desk;
+use bench_text::Out;
+use bench_text::flush;
+use bench_text::text;
 use libc::STDIN_FILENO;
-use text::Out;
-use text::flush;
-use text::text;
 ghost use Prim.Native.Nat.{_<_};
 ghost use lib.ListN.{length as List·length};
 

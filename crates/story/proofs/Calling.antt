@@ -7,28 +7,28 @@ use native.Mathlib.Omega.{arith}
 use lib.Dec.{ltb}
 use lib.ListN.{length}
 use Rattle.numbers.specs.declared.stamp.Stamp.{Stamp}
-use Rattle.layout.specs.declared.message.Port.{Port}
-use Rattle.layout.specs.declared.message.Header.{Header}
-use Rattle.layout.specs.declared.message.Body.{Body}
-use Rattle.layout.specs.declared.message.Body.the-variants as bodies
-use Rattle.masters.specs.declared.admission.Verdict.{Verdict}
-use Rattle.masters.specs.declared.admission.Verdict.the-variants.{Clear, Barred}
-use Rattle.masters.specs.Records.{intervalOf}
-use Rattle.masters.specs.Admitting.{Ground, firstOf}
-use Rattle.masters.proofs.Grounds.{clear-cons}
-use Rattle.exchange.specs.declared.Answer.the-variants as tells
-use Rattle.exchange.specs.Table.{oneStep, twoStep, followUp, requested, sent, delayResp, table}
-use Rattle.exchange.specs.Halves.{asked}
-use Rattle.exchange.specs.Events.{told, withRequest, takes as stampTakes}
-use Rattle.settings.specs.declared.Settings.{Settings}
-use Rattle.unit.specs.declared.calls.Call.{Call}
-use Rattle.unit.specs.declared.calls.Call.the-variants as calls
-use Rattle.unit.specs.declared.calls.Answer.{Answer}
-use Rattle.unit.specs.declared.calls.Answer.the-variants as answers
-use Rattle.unit.specs.Effects.{Stays, Effect, wipes, at, unlocked}
-use Rattle.unit.specs.Hearing.{syncEvent, twoStepIn, kindBars, senderBars, heardAs}
-use Rattle.unit.specs.Measuring.{fieldBar, askedBars, requestBars, unless, meaningOf, asking, requests, sends}
-use Rattle.card.specs.Story.{Past}
+use Rattle.wire_layout.specs.declared.message.Port.{Port}
+use Rattle.wire_layout.specs.declared.message.Header.{Header}
+use Rattle.wire_layout.specs.declared.message.Body.{Body}
+use Rattle.wire_layout.specs.declared.message.Body.the-variants as bodies
+use Rattle.rules_masters.specs.declared.admission.Verdict.{Verdict}
+use Rattle.rules_masters.specs.declared.admission.Verdict.the-variants.{Clear, Barred}
+use Rattle.rules_masters.specs.Records.{intervalOf}
+use Rattle.rules_masters.specs.Admitting.{Ground, firstOf}
+use Rattle.rules_masters.proofs.Grounds.{clear-cons}
+use Rattle.rules_exchange.specs.declared.Answer.the-variants as tells
+use Rattle.rules_exchange.specs.Table.{oneStep, twoStep, followUp, requested, sent, delayResp, table}
+use Rattle.rules_exchange.specs.Halves.{asked}
+use Rattle.rules_exchange.specs.Events.{told, withRequest, takes as stampTakes}
+use Rattle.rules_settings.specs.declared.Settings.{Settings}
+use Rattle.unit_core.specs.declared.calls.Call.{Call}
+use Rattle.unit_core.specs.declared.calls.Call.the-variants as calls
+use Rattle.unit_core.specs.declared.calls.Answer.{Answer}
+use Rattle.unit_core.specs.declared.calls.Answer.the-variants as answers
+use Rattle.unit_core.specs.Effects.{Stays, Effect, wipes, at, unlocked}
+use Rattle.unit_core.specs.Hearing.{syncEvent, twoStepIn, kindBars, senderBars, heardAs}
+use Rattle.unit_core.specs.Measuring.{fieldBar, askedBars, requestBars, unless, meaningOf, asking, requests, sends}
+use Rattle.unit.specs.Story.{Past}
 use Rattle.story_exchange.specs.Log.{line as entry}
 use Rattle.story_exchange.proofs.Tells.{Tells as ExchangeTells}
 use Rattle.story_exchange.specs.Rules.{answer as exchangeAnswer, taken}

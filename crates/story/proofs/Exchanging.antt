@@ -6,27 +6,27 @@ use mathlib.Core.Bool.{false}
 use Prim.Native.Nat.{ℕ, suc}
 use native.Mathlib.Omega.{arith}
 use lib.IntN.{ℤ}
-use Rattle.masters.specs.declared.table.Table.{Table}
-use Rattle.masters.specs.Records.{intervalOf}
-use Rattle.exchange.specs.declared.Exchange.{Exchange}
-use Rattle.exchange.specs.declared.Accepted.{Accepted}
-use Rattle.exchange.specs.declared.Answer.{Answer as Told}
-use Rattle.exchange.specs.declared.Answer.the-variants as tells
-use Rattle.exchange.specs.Table.{Event}
-use Rattle.exchange.specs.Answers.{Range}
-use Rattle.exchange.specs.Events.{told}
-use Rattle.exchange.proofs.Promises.{accepted-range}
+use Rattle.rules_masters.specs.declared.table.Table.{Table}
+use Rattle.rules_masters.specs.Records.{intervalOf}
+use Rattle.rules_exchange.specs.declared.Exchange.{Exchange}
+use Rattle.rules_exchange.specs.declared.Accepted.{Accepted}
+use Rattle.rules_exchange.specs.declared.Answer.{Answer as Told}
+use Rattle.rules_exchange.specs.declared.Answer.the-variants as tells
+use Rattle.rules_exchange.specs.Table.{Event}
+use Rattle.rules_exchange.specs.Answers.{Range}
+use Rattle.rules_exchange.specs.Events.{told}
+use Rattle.rules_exchange.proofs.Promises.{accepted-range}
 use Rattle.numbers.specs.Integers.{abs-parts, one-side}
-use Rattle.servo.proofs.Limits.{held-same}
-use Rattle.servo.specs.Steps.{accepted as within, limitOf, steppedBy}
-use Rattle.settings.specs.declared.Settings.{Settings}
-use Rattle.unit.specs.declared.calls.Call.{Call}
-use Rattle.unit.specs.declared.calls.Answer.{Answer}
-use Rattle.unit.specs.declared.calls.Answer.the-variants as answers
-use Rattle.unit.specs.Effects.{Stays, goes, wipes}
-use Rattle.unit.specs.Refusing.{isRefusal}
-use Rattle.unit.specs.Measuring.{meaningOf, byAnswer, withExchange, outputAfter, steeredBy, faultyAt, exchanged as exchanging}
-use Rattle.card.specs.Story.{Past}
+use Rattle.rules_servo.proofs.Limits.{held-same}
+use Rattle.rules_servo.specs.Steps.{accepted as within, limitOf, steppedBy}
+use Rattle.rules_settings.specs.declared.Settings.{Settings}
+use Rattle.unit_core.specs.declared.calls.Call.{Call}
+use Rattle.unit_core.specs.declared.calls.Answer.{Answer}
+use Rattle.unit_core.specs.declared.calls.Answer.the-variants as answers
+use Rattle.unit_core.specs.Effects.{Stays, goes, wipes}
+use Rattle.unit_core.specs.Refusing.{isRefusal}
+use Rattle.unit_core.specs.Measuring.{meaningOf, byAnswer, withExchange, outputAfter, steeredBy, faultyAt, exchanged as exchanging}
+use Rattle.unit.specs.Story.{Past}
 use Rattle.story_exchange.specs.Log.{line as entry}
 use Rattle.story_exchange.specs.History.{entered}
 use Rattle.story_exchange.specs.Rules.{answer as exchangeAnswer}

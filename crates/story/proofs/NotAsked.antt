@@ -5,13 +5,13 @@ use mathlib.Core.Bool.{Bool, true, false, cond}
 use lib.IntN.{ℤ, pos, _+ℤ_, _-ℤ_}
 use Rattle.numbers.specs.declared.stamp.Stamp.{Stamp}
 use Rattle.numbers.specs.declared.refusal.Refusal.the-variants.{Field, Correction, Unmatched}
-use Rattle.exchange.specs.declared.Answer.{Answer as Told}
-use Rattle.exchange.specs.declared.Answer.the-variants as tells
-use Rattle.exchange.specs.declared.measure.Sum.{Sum}
-use Rattle.exchange.specs.declared.measure.Sum.the-variants.{Delay, Neg as SumNeg, Long as SumLong}
-use Rattle.exchange.specs.Measure.{sumOf, hugeOf, stepOf}
-use Rattle.exchange.specs.Table.{Event, oneStep, twoStep, followUp, requested, sent, delayResp, samePort}
-use Rattle.exchange.specs.Events.{correctionIn, ns, measuredAs}
+use Rattle.rules_exchange.specs.declared.Answer.{Answer as Told}
+use Rattle.rules_exchange.specs.declared.Answer.the-variants as tells
+use Rattle.rules_exchange.specs.declared.measure.Sum.{Sum}
+use Rattle.rules_exchange.specs.declared.measure.Sum.the-variants.{Delay, Neg as SumNeg, Long as SumLong}
+use Rattle.rules_exchange.specs.Measure.{sumOf, hugeOf, stepOf}
+use Rattle.rules_exchange.specs.Table.{Event, oneStep, twoStep, followUp, requested, sent, delayResp, samePort}
+use Rattle.rules_exchange.specs.Events.{correctionIn, ns, measuredAs}
 use Rattle.story_exchange.specs.Log.{Log, aLocal}
 use Rattle.story_exchange.specs.Held.{heldSync, origin, pending, t3, lastLocal, verdicts, isHuge, isPath, lastTwo, lastDelay}
 use Rattle.story_exchange.specs.Rules.{answer, taken, judged, responded, forwardBy, backBy, wantsT1, wantsT3, isBelow, unlessBack, farFrom, used, offset, fieldIn}

@@ -12,34 +12,34 @@ use lib.Signed.{leZ}
 use Rattle.numbers.specs.declared.refusal.Refusal.the-variants.{Now}
 use Rattle.numbers.specs.declared.units.Ppb.{Ppb}
 use Rattle.numbers.specs.declared.stamp.Stamp.{Stamp}
-use Rattle.layout.specs.declared.message.Header.{Header}
-use Rattle.layout.specs.declared.message.Offer.{Offer}
-use Rattle.layout.specs.declared.message.Body.the-variants as bodies
-use Rattle.masters.specs.declared.table.Table.{Table}
-use Rattle.masters.specs.declared.chosen.Chosen.{Chosen}
-use Rattle.masters.specs.declared.record.Announce.{Announce}
-use Rattle.masters.specs.declared.admission.Answer.{Answer as Admission}
-use Rattle.masters.specs.declared.admission.Answer.the-variants as admission
-use Rattle.masters.specs.Records.{intervalOf}
-use Rattle.masters.specs.Holding.{sameMasterOf}
-use Rattle.servo.specs.Shows.{isHoldover, isTracking}
-use Rattle.servo.specs.declared.shown.Shown.the-variants.{Holdover, Tracking, Adjusting}
-use Rattle.watch.specs.declared.settings.Settings.{Settings as WatchSettings}
-use Rattle.watch.specs.declared.window.Sample.{Sample}
-use Rattle.watch.specs.declared.Answer.the-variants as pulse
-use Rattle.watch.specs.declared.Drift.{Drift}
-use Rattle.watch.specs.declared.Drift.the-variants as drift
-use Rattle.watch.specs.Rules.{Since, Pulse as Given, Outcome, refuse, wipe, take, outcome, onLast, judged, sampleAfter, outsideOf, far, lineSince, became as sinceAfter}
-use Rattle.settings.specs.declared.Settings.{Settings}
-use Rattle.unit.specs.declared.calls.Call.{Call}
-use Rattle.unit.specs.declared.calls.Call.the-variants as calls
-use Rattle.unit.specs.declared.calls.Answer.{Answer}
-use Rattle.unit.specs.declared.calls.Answer.the-variants as answers
-use Rattle.unit.specs.Effects.{Stays, keeps, goes, takes, wipes}
-use Rattle.unit.specs.Choosing.{admission as admitting, choosing, holds, times, chooses as choosesAnew, admits, announces as announcing, masterAt}
-use Rattle.unit.specs.Ticking.{ticks, lineBy}
-use Rattle.unit.specs.Showing.{portOf, showsOf}
-use Rattle.card.specs.Story.{Past, became}
+use Rattle.wire_layout.specs.declared.message.Header.{Header}
+use Rattle.wire_layout.specs.declared.message.Offer.{Offer}
+use Rattle.wire_layout.specs.declared.message.Body.the-variants as bodies
+use Rattle.rules_masters.specs.declared.table.Table.{Table}
+use Rattle.rules_masters.specs.declared.chosen.Chosen.{Chosen}
+use Rattle.rules_masters.specs.declared.record.Announce.{Announce}
+use Rattle.rules_masters.specs.declared.admission.Answer.{Answer as Admission}
+use Rattle.rules_masters.specs.declared.admission.Answer.the-variants as admission
+use Rattle.rules_masters.specs.Records.{intervalOf}
+use Rattle.rules_masters.specs.Holding.{sameMasterOf}
+use Rattle.rules_servo.specs.Shows.{isHoldover, isTracking}
+use Rattle.rules_servo.specs.declared.shown.Shown.the-variants.{Holdover, Tracking, Adjusting}
+use Rattle.rules_watch.specs.declared.settings.Settings.{Settings as WatchSettings}
+use Rattle.rules_watch.specs.declared.window.Sample.{Sample}
+use Rattle.rules_watch.specs.declared.Answer.the-variants as pulse
+use Rattle.rules_watch.specs.declared.Drift.{Drift}
+use Rattle.rules_watch.specs.declared.Drift.the-variants as drift
+use Rattle.rules_watch.specs.Rules.{Since, Pulse as Given, Outcome, refuse, wipe, take, outcome, onLast, judged, sampleAfter, outsideOf, far, lineSince, became as sinceAfter}
+use Rattle.rules_settings.specs.declared.Settings.{Settings}
+use Rattle.unit_core.specs.declared.calls.Call.{Call}
+use Rattle.unit_core.specs.declared.calls.Call.the-variants as calls
+use Rattle.unit_core.specs.declared.calls.Answer.{Answer}
+use Rattle.unit_core.specs.declared.calls.Answer.the-variants as answers
+use Rattle.unit_core.specs.Effects.{Stays, keeps, goes, takes, wipes}
+use Rattle.unit_core.specs.Choosing.{admission as admitting, choosing, holds, times, chooses as choosesAnew, admits, announces as announcing, masterAt}
+use Rattle.unit_core.specs.Ticking.{ticks, lineBy}
+use Rattle.unit_core.specs.Showing.{portOf, showsOf}
+use Rattle.unit.specs.Story.{Past, became}
 use Rattle.story_masters.specs.Announces.{Log as SeatLog, came, lastNow as lastSeen}
 use Rattle.story_masters.specs.Places.{answer as seatAnswer, chosen as chosenAt}
 use Rattle.story_masters.specs.History.{entered, lastAfter, log as seatsAfter}

@@ -3,27 +3,27 @@ use mathlib.Core.Path.{_≡_, _∙_}
 use mathlib.Core.List.{List, [], _∷_, reverse}
 use mathlib.Core.Bool.{true, false}
 use lib.ListN.{length}
-use Rattle.layout.specs.declared.message.Header.{Header}
-use Rattle.layout.specs.declared.message.Body.{Body}
-use Rattle.layout.specs.declared.message.Body.the-variants as bodies
+use Rattle.wire_layout.specs.declared.message.Header.{Header}
+use Rattle.wire_layout.specs.declared.message.Body.{Body}
+use Rattle.wire_layout.specs.declared.message.Body.the-variants as bodies
 use Rattle.numbers.specs.declared.stamp.Stamp.{Stamp}
 use Rattle.numbers.specs.declared.refusal.Refusal.the-variants.{NotReady}
 use Prim.Native.Nat.{ℕ, _%_, _^_}
-use Rattle.watch.specs.declared.window.Sample.{Sample}
-use Rattle.watch.specs.Totals.{pointsOf, lineThrough}
-use Rattle.watch.specs.Rules.{due, windowOf}
-use Rattle.unit.specs.declared.calls.Answer.the-variants as answers
-use Rattle.settings.specs.declared.Settings.{Settings}
-use Rattle.settings.specs.declared.Given.{Given}
-use Rattle.settings.specs.declared.Set.the-variants.{Accepted}
-use Rattle.settings.specs.Ranges.{settingsOf}
-use Rattle.unit.specs.declared.calls.Call.{Call}
-use Rattle.unit.specs.declared.calls.Call.the-variants as calls
-use Rattle.unit.specs.Receiving.{byKind, tableBy}
-use Rattle.card.specs.Story.{Past, effectAfter, past, answerAfter}
-use Rattle.card.specs.Calls.{tableAfter, freshCard, stepOf}
-use Rattle.card.proofs.Simulation.{played}
-use Rattle.card.proofs.Demands.{answers-told}
+use Rattle.rules_watch.specs.declared.window.Sample.{Sample}
+use Rattle.rules_watch.specs.Totals.{pointsOf, lineThrough}
+use Rattle.rules_watch.specs.Rules.{due, windowOf}
+use Rattle.unit_core.specs.declared.calls.Answer.the-variants as answers
+use Rattle.rules_settings.specs.declared.Settings.{Settings}
+use Rattle.rules_settings.specs.declared.Given.{Given}
+use Rattle.rules_settings.specs.declared.Set.the-variants.{Accepted}
+use Rattle.rules_settings.specs.Ranges.{settingsOf}
+use Rattle.unit_core.specs.declared.calls.Call.{Call}
+use Rattle.unit_core.specs.declared.calls.Call.the-variants as calls
+use Rattle.unit_core.specs.Receiving.{byKind, tableBy}
+use Rattle.unit.specs.Story.{Past, effectAfter, past, answerAfter}
+use Rattle.unit.specs.Calls.{tableAfter, freshUnit, stepOf}
+use Rattle.unit.proofs.Simulation.{played}
+use Rattle.unit.proofs.Demands.{answers-told}
 use Rattle.story.specs.Book.{Book, samples, wipeCount}
 use Rattle.story.specs.Saying.{heard, answer}
 use Rattle.story.specs.Tale.{book, answerByHistory}
@@ -64,9 +64,9 @@ unfolding answerAfter answerByHistory
 refines s before call = step s (book s before) (past s before) (tells s before) call .says
 
 -- and so for the card itself: its settings accepted, the calls oldest first, refused ones among them
-pub card-refines : (g : Given) (s : Settings) → settingsOf g ≡ Accepted s → (list : List Call) (call : Call)
-    → stepOf (played (freshCard s) list) call .answer ≡ answerByHistory s (reverse list) call
-card-refines g s set list call = answers-told g s set list call ∙ refines s (reverse list) call
+pub unit-refines : (g : Given) (s : Settings) → settingsOf g ≡ Accepted s → (list : List Call) (call : Call)
+    → stepOf (played (freshUnit s) list) call .answer ≡ answerByHistory s (reverse list) call
+unit-refines g s set list call = answers-told g s set list call ∙ refines s (reverse list) call
 
 -- demand 3 over the book: a line is given exactly when the samples taken since the last wipe reach the holdoff and the valid ones among the last W of
 -- them the minimum; it is the line through those, with the number of wipes
@@ -78,10 +78,10 @@ module _ (g : Given) (s : Settings) (set : settingsOf g ≡ Accepted s) (list : 
   taken = samples s B .samples
 
   pub line-when-due : due (s .watch) (length taken) (windowOf (s .watch) taken) ≡ true
-      → stepOf (played (freshCard s) list) calls.Line .answer ≡ answers.Line (lineThrough (pointsOf (windowOf (s .watch) taken))) (wipeCount B % 2 ^ 32)
+      → stepOf (played (freshUnit s) list) calls.Line .answer ≡ answers.Line (lineThrough (pointsOf (windowOf (s .watch) taken))) (wipeCount B % 2 ^ 32)
   unfolding answerByHistory answer
-  line-when-due e = card-refines g s set list calls.Line ∙ rw e
+  line-when-due e = unit-refines g s set list calls.Line ∙ rw e
 
-  pub line-only-when-due : due (s .watch) (length taken) (windowOf (s .watch) taken) ≡ false → stepOf (played (freshCard s) list) calls.Line .answer ≡ answers.Refused NotReady
+  pub line-only-when-due : due (s .watch) (length taken) (windowOf (s .watch) taken) ≡ false → stepOf (played (freshUnit s) list) calls.Line .answer ≡ answers.Refused NotReady
   unfolding answerByHistory answer
-  line-only-when-due e = card-refines g s set list calls.Line ∙ rw e
+  line-only-when-due e = unit-refines g s set list calls.Line ∙ rw e

@@ -4,14 +4,14 @@ use mathlib.Core.List.{[]}
 use mathlib.Core.Option.{Option, none, some}
 use mathlib.Core.Bool.{cond}
 use Prim.Native.Nat.{ℕ}
-use Rattle.masters.specs.declared.table.Table.{Table}
-use Rattle.masters.specs.Records.{intervalOf}
-use Rattle.servo.specs.Steps.{limitOf}
-use Rattle.settings.specs.declared.Settings.{Settings}
-use Rattle.unit.specs.declared.calls.Call.{Call}
-use Rattle.unit.specs.declared.calls.Answer.{Answer}
-use Rattle.unit.specs.Effects.{Ran, freshRan, Effect}
-use Rattle.card.specs.Story.{Past, start, became, saying}
+use Rattle.rules_masters.specs.declared.table.Table.{Table}
+use Rattle.rules_masters.specs.Records.{intervalOf}
+use Rattle.rules_servo.specs.Steps.{limitOf}
+use Rattle.rules_settings.specs.declared.Settings.{Settings}
+use Rattle.unit_core.specs.declared.calls.Call.{Call}
+use Rattle.unit_core.specs.declared.calls.Answer.{Answer}
+use Rattle.unit_core.specs.Effects.{Ran, freshRan, Effect}
+use Rattle.unit.specs.Story.{Past, start, became, saying}
 use Rattle.story_exchange.proofs.Tells.{Tells as ExchangeTells, fresh-tells}
 use Rattle.story_servo.specs.Offsets.{machine as servoMachine}
 use Rattle.story_servo.proofs.Refines.{Tells as ServoTells, tells as servo-tells}

@@ -7,26 +7,26 @@ use lib.Dec.{leb}
 use lib.IntN.{ℤ, pos, _-ℤ_}
 use lib.ListN.{length}
 use Rattle.numbers.specs.declared.stamp.Stamp.{Stamp}
-use Rattle.layout.specs.declared.message.Port.{Port}
-use Rattle.layout.specs.declared.message.Header.{Header}
-use Rattle.layout.specs.declared.message.Body.{Body}
-use Rattle.layout.specs.declared.message.Body.the-variants as bodies
-use Rattle.masters.specs.declared.chosen.Chosen.{Chosen}
-use Rattle.masters.specs.Holding.{nobody}
-use Rattle.exchange.specs.declared.Answer.{Answer as Told}
-use Rattle.exchange.specs.declared.Answer.the-variants as tells
-use Rattle.exchange.specs.Answers.{wipes}
-use Rattle.exchange.specs.Table.{Event, requested, sent, followUp, delayResp}
-use Rattle.watch.specs.declared.settings.Settings.{Settings as WatchSettings}
-use Rattle.watch.specs.declared.window.Sample.{Sample}
-use Rattle.watch.specs.Rules.{Since, Pulse, far}
-use Rattle.settings.specs.declared.Settings.{Settings}
-use Rattle.unit.specs.declared.calls.Call.{Call}
-use Rattle.unit.specs.declared.calls.Call.the-variants as calls
-use Rattle.unit.specs.declared.calls.Answer.{Answer}
-use Rattle.unit.specs.declared.calls.Answer.the-variants as answers
-use Rattle.unit.specs.Effects.{Stays}
-use Rattle.unit.specs.Hearing.{syncEvent}
+use Rattle.wire_layout.specs.declared.message.Port.{Port}
+use Rattle.wire_layout.specs.declared.message.Header.{Header}
+use Rattle.wire_layout.specs.declared.message.Body.{Body}
+use Rattle.wire_layout.specs.declared.message.Body.the-variants as bodies
+use Rattle.rules_masters.specs.declared.chosen.Chosen.{Chosen}
+use Rattle.rules_masters.specs.Holding.{nobody}
+use Rattle.rules_exchange.specs.declared.Answer.{Answer as Told}
+use Rattle.rules_exchange.specs.declared.Answer.the-variants as tells
+use Rattle.rules_exchange.specs.Answers.{wipes}
+use Rattle.rules_exchange.specs.Table.{Event, requested, sent, followUp, delayResp}
+use Rattle.rules_watch.specs.declared.settings.Settings.{Settings as WatchSettings}
+use Rattle.rules_watch.specs.declared.window.Sample.{Sample}
+use Rattle.rules_watch.specs.Rules.{Since, Pulse, far}
+use Rattle.rules_settings.specs.declared.Settings.{Settings}
+use Rattle.unit_core.specs.declared.calls.Call.{Call}
+use Rattle.unit_core.specs.declared.calls.Call.the-variants as calls
+use Rattle.unit_core.specs.declared.calls.Answer.{Answer}
+use Rattle.unit_core.specs.declared.calls.Answer.the-variants as answers
+use Rattle.unit_core.specs.Effects.{Stays}
+use Rattle.unit_core.specs.Hearing.{syncEvent}
 use Rattle.story_lists.specs.Reading.{all, newest, since}
 use Rattle.story_exchange.specs.Log.{line as entry, Line as Entry, Log as ExchangeLog, Verdict, neg, long, huge, path, accepted, aVerdict}
 use Rattle.story_masters.specs.Announces.{Log as SeatLog}

@@ -8,33 +8,33 @@ use lib.IntN.{ℤ}
 use Rattle.numbers.specs.declared.refusal.Refusal.the-variants.{Now, Kind, Tick as NoTick}
 use Rattle.numbers.specs.declared.stamp.Stamp.{Stamp}
 use Rattle.numbers.specs.declared.units.Ppb.{Ppb}
-use Rattle.layout.specs.declared.message.Header.{Header}
-use Rattle.layout.specs.declared.message.Body.{Body}
-use Rattle.layout.specs.declared.message.Body.the-variants as bodies
-use Rattle.masters.specs.declared.record.Announce.{Announce}
-use Rattle.masters.specs.declared.admission.Answer.{Answer as Admission}
-use Rattle.masters.specs.declared.admission.Answer.the-variants as admission
-use Rattle.masters.specs.declared.admission.Verdict.{Verdict}
-use Rattle.masters.specs.declared.admission.Verdict.the-variants.{Clear, Barred}
-use Rattle.masters.specs.Admitting.{firstOf}
-use Rattle.masters.specs.Holding.{sameMasterOf}
-use Rattle.exchange.specs.declared.Answer.{Answer as Told}
-use Rattle.exchange.specs.declared.Answer.the-variants as tells
-use Rattle.exchange.specs.Table.{Event, requested, sent, followUp, delayResp}
-use Rattle.servo.specs.declared.shown.Shown.{Shown}
-use Rattle.servo.specs.declared.shown.Shown.the-variants.{Holdover, Tracking, Adjusting}
-use Rattle.servo.specs.Shows.{isTracking}
-use Rattle.servo.specs.Steps.{limitOf}
-use Rattle.watch.specs.Rules.{Outcome, refuse, wipe, take, outcome, lineSince}
-use Rattle.settings.specs.declared.Settings.{Settings}
-use Rattle.unit.specs.declared.calls.Call.{Call}
-use Rattle.unit.specs.declared.calls.Call.the-variants as calls
-use Rattle.unit.specs.declared.calls.Answer.{Answer}
-use Rattle.unit.specs.declared.calls.Answer.the-variants as answers
-use Rattle.unit.specs.Hearing.{syncEvent, kindBars, senderBars}
-use Rattle.unit.specs.Measuring.{fieldBar, askedBars, requestBars}
-use Rattle.unit.specs.Showing.{portOf}
-use Rattle.unit.specs.Ticking.{asAnswer, lineBy}
+use Rattle.wire_layout.specs.declared.message.Header.{Header}
+use Rattle.wire_layout.specs.declared.message.Body.{Body}
+use Rattle.wire_layout.specs.declared.message.Body.the-variants as bodies
+use Rattle.rules_masters.specs.declared.record.Announce.{Announce}
+use Rattle.rules_masters.specs.declared.admission.Answer.{Answer as Admission}
+use Rattle.rules_masters.specs.declared.admission.Answer.the-variants as admission
+use Rattle.rules_masters.specs.declared.admission.Verdict.{Verdict}
+use Rattle.rules_masters.specs.declared.admission.Verdict.the-variants.{Clear, Barred}
+use Rattle.rules_masters.specs.Admitting.{firstOf}
+use Rattle.rules_masters.specs.Holding.{sameMasterOf}
+use Rattle.rules_exchange.specs.declared.Answer.{Answer as Told}
+use Rattle.rules_exchange.specs.declared.Answer.the-variants as tells
+use Rattle.rules_exchange.specs.Table.{Event, requested, sent, followUp, delayResp}
+use Rattle.rules_servo.specs.declared.shown.Shown.{Shown}
+use Rattle.rules_servo.specs.declared.shown.Shown.the-variants.{Holdover, Tracking, Adjusting}
+use Rattle.rules_servo.specs.Shows.{isTracking}
+use Rattle.rules_servo.specs.Steps.{limitOf}
+use Rattle.rules_watch.specs.Rules.{Outcome, refuse, wipe, take, outcome, lineSince}
+use Rattle.rules_settings.specs.declared.Settings.{Settings}
+use Rattle.unit_core.specs.declared.calls.Call.{Call}
+use Rattle.unit_core.specs.declared.calls.Call.the-variants as calls
+use Rattle.unit_core.specs.declared.calls.Answer.{Answer}
+use Rattle.unit_core.specs.declared.calls.Answer.the-variants as answers
+use Rattle.unit_core.specs.Hearing.{syncEvent, kindBars, senderBars}
+use Rattle.unit_core.specs.Measuring.{fieldBar, askedBars, requestBars}
+use Rattle.unit_core.specs.Showing.{portOf}
+use Rattle.unit_core.specs.Ticking.{asAnswer, lineBy}
 use Rattle.story_exchange.specs.Rules.{answer as exchangeAnswer}
 use Rattle.story_servo.specs.Offsets.{output, ten}
 use Rattle.story_masters.specs.Announces.{came, Log as SeatLog}

@@ -1,10 +1,10 @@
 -- The book after a list of calls, the newest first, and the answer to the next.
 use mathlib.Core.List.{List, [], _∷_}
 use mathlib.Core.Bool.{cond}
-use Rattle.settings.specs.declared.Settings.{Settings}
-use Rattle.unit.specs.declared.calls.Call.{Call}
-use Rattle.unit.specs.declared.calls.Answer.{Answer}
-use Rattle.unit.specs.Refusing.{isRefusal}
+use Rattle.rules_settings.specs.declared.Settings.{Settings}
+use Rattle.unit_core.specs.declared.calls.Call.{Call}
+use Rattle.unit_core.specs.declared.calls.Answer.{Answer}
+use Rattle.unit_core.specs.Refusing.{isRefusal}
 use Rattle.story.specs.Book.{Book, line}
 use Rattle.story.specs.Saying.{answer}
 

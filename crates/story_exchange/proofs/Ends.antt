@@ -12,19 +12,19 @@ use lib.ListN.{take}
 use lib.Seq.{take-take}
 use Rattle.numbers.specs.declared.stamp.Stamp.{Stamp}
 use Rattle.numbers.specs.declared.refusal.Refusal.the-variants.{Unmatched}
-use Rattle.layout.specs.declared.message.Port.{Port}
-use Rattle.exchange.specs.declared.delays.Delays.{Delays}
-use Rattle.exchange.specs.declared.Exchange.{Exchange}
-use Rattle.exchange.specs.declared.Answer.{Answer}
-use Rattle.exchange.specs.declared.Answer.the-variants.{Refused, Neg, Long, Huge, HugeFaulty, Path, PathWipes, Step}
-use Rattle.exchange.specs.declared.measure.Sum.{Sum}
-use Rattle.exchange.specs.declared.measure.Sum.the-variants.{Delay, Neg as SumNeg, Long as SumLong}
-use Rattle.exchange.specs.Delays.{acceptedBefore, pathBy, usedOf, usedBy as memoryUses, filtered}
-use Rattle.exchange.specs.Halves.{noSync, noRequest, syncHalf, requestHalf}
-use Rattle.exchange.specs.Measure.{forwardOf, backOf, sumOf, hugeOf, stepOf}
-use Rattle.exchange.specs.Table.{Event, delayResp, samePort, measures, table, if-matching}
-use Rattle.exchange.specs.Events.{freshExchange, answers as answering, refused, withRows, withDelay, spent, none as noLocal, ns, measuredAs, hugeAgain, pathAgain, accepted as accepting, judged as judging, bySum, follows}
-use Rattle.exchange.proofs.Promises.{sync-held, request-held, last-five}
+use Rattle.wire_layout.specs.declared.message.Port.{Port}
+use Rattle.rules_exchange.specs.declared.delays.Delays.{Delays}
+use Rattle.rules_exchange.specs.declared.Exchange.{Exchange}
+use Rattle.rules_exchange.specs.declared.Answer.{Answer}
+use Rattle.rules_exchange.specs.declared.Answer.the-variants.{Refused, Neg, Long, Huge, HugeFaulty, Path, PathWipes, Step}
+use Rattle.rules_exchange.specs.declared.measure.Sum.{Sum}
+use Rattle.rules_exchange.specs.declared.measure.Sum.the-variants.{Delay, Neg as SumNeg, Long as SumLong}
+use Rattle.rules_exchange.specs.Delays.{acceptedBefore, pathBy, usedOf, usedBy as memoryUses, filtered}
+use Rattle.rules_exchange.specs.Halves.{noSync, noRequest, syncHalf, requestHalf}
+use Rattle.rules_exchange.specs.Measure.{forwardOf, backOf, sumOf, hugeOf, stepOf}
+use Rattle.rules_exchange.specs.Table.{Event, delayResp, samePort, measures, table, if-matching}
+use Rattle.rules_exchange.specs.Events.{freshExchange, answers as answering, refused, withRows, withDelay, spent, none as noLocal, ns, measuredAs, hugeAgain, pathAgain, accepted as accepting, judged as judging, bySum, follows}
+use Rattle.rules_exchange.proofs.Promises.{sync-held, request-held, last-five}
 use Rattle.story_lists.specs.Reading.{all, since, first}
 use Rattle.story_exchange.specs.Log.{Log, line, events, answers, Origin, ASync, Verdict}
 use Rattle.story_exchange.specs.Held.{heldSync, origin, pending, t3, verdicts, isHuge, isPath, lastTwo, delays, lastDelay, lastUsed}

@@ -7,12 +7,12 @@ use Rattle.numbers.specs.Rounding.{floorZ, roundN}
 use Rattle.numbers.specs.Stamps.{moment, soundOf, belowOf}
 use Rattle.numbers.specs.declared.stamp.Stamp.{Stamp}
 use Rattle.numbers.specs.declared.refusal.Refusal.the-variants.{Unmatched}
-use Rattle.layout.specs.declared.message.Port.{Port}
-use Rattle.exchange.specs.declared.Answer.the-variants.{Refused, Back, PathWipes}
-use Rattle.exchange.specs.Median.{below, middling, firstMiddling}
-use Rattle.exchange.specs.Measure.{forwardOf, backOf, sumOf}
-use Rattle.exchange.specs.Table.{Event, oneStep, twoStep, requested, sent, delayResp, samePort}
-use Rattle.exchange.specs.Events.{measuredAs}
+use Rattle.wire_layout.specs.declared.message.Port.{Port}
+use Rattle.rules_exchange.specs.declared.Answer.the-variants.{Refused, Back, PathWipes}
+use Rattle.rules_exchange.specs.Median.{below, middling, firstMiddling}
+use Rattle.rules_exchange.specs.Measure.{forwardOf, backOf, sumOf}
+use Rattle.rules_exchange.specs.Table.{Event, oneStep, twoStep, requested, sent, delayResp, samePort}
+use Rattle.rules_exchange.specs.Events.{measuredAs}
 use Rattle.story_lists.specs.Reading.{all, since}
 use Rattle.story_exchange.specs.Log.{events, answers}
 use Rattle.story_exchange.specs.Held.{lastTwo}

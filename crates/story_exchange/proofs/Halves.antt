@@ -10,14 +10,14 @@ use Rattle.numbers.specs.Stamps.{belowOf}
 use Rattle.numbers.specs.declared.stamp.Stamp.{Stamp}
 use Rattle.numbers.specs.declared.refusal.Refusal.{Refusal}
 use Rattle.numbers.specs.declared.refusal.Refusal.the-variants.{Unmatched}
-use Rattle.exchange.specs.declared.Last.{Last}
-use Rattle.exchange.specs.declared.Exchange.{Exchange}
-use Rattle.exchange.specs.declared.Answer.{Answer}
-use Rattle.exchange.specs.declared.Answer.the-variants.{Refused, Held, Paired, Stamped, Back}
-use Rattle.exchange.specs.Halves.{SyncHalf, awaits, knows, RequestHalf, asked, stamped, syncHalf, requestHalf}
-use Rattle.exchange.specs.Table.{Event, oneStep, twoStep, followUp, requested, sent, syncIs, requestIs, table, if-matching}
-use Rattle.exchange.specs.Events.{freshExchange, answers as answering, refused, withSync, withRequest, withLast, stamp, none as noLocal, backward, takes, follows}
-use Rattle.exchange.proofs.Promises.{sync-held, request-held}
+use Rattle.rules_exchange.specs.declared.Last.{Last}
+use Rattle.rules_exchange.specs.declared.Exchange.{Exchange}
+use Rattle.rules_exchange.specs.declared.Answer.{Answer}
+use Rattle.rules_exchange.specs.declared.Answer.the-variants.{Refused, Held, Paired, Stamped, Back}
+use Rattle.rules_exchange.specs.Halves.{SyncHalf, awaits, knows, RequestHalf, asked, stamped, syncHalf, requestHalf}
+use Rattle.rules_exchange.specs.Table.{Event, oneStep, twoStep, followUp, requested, sent, syncIs, requestIs, table, if-matching}
+use Rattle.rules_exchange.specs.Events.{freshExchange, answers as answering, refused, withSync, withRequest, withLast, stamp, none as noLocal, backward, takes, follows}
+use Rattle.rules_exchange.proofs.Promises.{sync-held, request-held}
 use Rattle.story_lists.specs.Reading.{all, since, newest, or-else}
 use Rattle.story_exchange.specs.Log.{Log, events, answers, Origin, ASync, aSync, aRequest}
 use Rattle.story_exchange.specs.Held.{unspent, heldSync, originOf, origin, pending, stampOf, t3, lastLocal}

@@ -3,11 +3,11 @@ use mathlib.Core.Path.{_≡_, refl}
 use mathlib.Core.List.{List, [], _∷_}
 use mathlib.Core.Bool.{Bool, true, false, cond}
 use Rattle.numbers.specs.declared.refusal.Refusal.the-variants.{Field, Correction}
-use Rattle.exchange.specs.declared.Exchange.{Exchange}
-use Rattle.exchange.specs.declared.Answer.the-variants.{Refused}
-use Rattle.exchange.specs.Halves.{syncHalf, requestHalf}
-use Rattle.exchange.specs.Table.{Event, oneStep, twoStep, followUp, requested, sent, delayResp, table}
-use Rattle.exchange.specs.Events.{refused, local, fieldIn as fieldOfLocal, correctionIn, follows, told}
+use Rattle.rules_exchange.specs.declared.Exchange.{Exchange}
+use Rattle.rules_exchange.specs.declared.Answer.the-variants.{Refused}
+use Rattle.rules_exchange.specs.Halves.{syncHalf, requestHalf}
+use Rattle.rules_exchange.specs.Table.{Event, oneStep, twoStep, followUp, requested, sent, delayResp, table}
+use Rattle.rules_exchange.specs.Events.{refused, local, fieldIn as fieldOfLocal, correctionIn, follows, told}
 use Rattle.story_exchange.specs.Log.{Log, aLocal}
 use Rattle.story_exchange.specs.Rules.{fieldIn, taken, answer}
 use Rattle.story_exchange.specs.History.{Happening, happens, wiped, log, answerByHistory, machine}

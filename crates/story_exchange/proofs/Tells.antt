@@ -6,15 +6,15 @@ use mathlib.Core.Bool.{Bool, cond}
 use Prim.Native.Nat.{ℕ, suc, min}
 use lib.ListN.{take}
 use Rattle.numbers.specs.declared.stamp.Stamp.{Stamp}
-use Rattle.exchange.specs.declared.Last.{Last}
-use Rattle.exchange.specs.declared.Exchange.{Exchange}
-use Rattle.exchange.specs.declared.Answer.{Answer}
-use Rattle.exchange.specs.declared.Answered.{Answered}
-use Rattle.exchange.specs.Delays.{acceptedBefore, usedOf, usedBy as memoryUses}
-use Rattle.exchange.specs.Halves.{SyncHalf, noSync, awaits, knows, RequestHalf, noRequest, asked, stamped, syncHalf, requestHalf}
-use Rattle.exchange.specs.Table.{Event}
-use Rattle.exchange.specs.Events.{freshExchange}
-use Rattle.exchange.proofs.Promises.{sync-held, request-held}
+use Rattle.rules_exchange.specs.declared.Last.{Last}
+use Rattle.rules_exchange.specs.declared.Exchange.{Exchange}
+use Rattle.rules_exchange.specs.declared.Answer.{Answer}
+use Rattle.rules_exchange.specs.declared.Answered.{Answered}
+use Rattle.rules_exchange.specs.Delays.{acceptedBefore, usedOf, usedBy as memoryUses}
+use Rattle.rules_exchange.specs.Halves.{SyncHalf, noSync, awaits, knows, RequestHalf, noRequest, asked, stamped, syncHalf, requestHalf}
+use Rattle.rules_exchange.specs.Table.{Event}
+use Rattle.rules_exchange.specs.Events.{freshExchange}
+use Rattle.rules_exchange.proofs.Promises.{sync-held, request-held}
 use Rattle.story_lists.specs.Reading.{all, since, newest}
 use Rattle.story_exchange.specs.Log.{Log, events, answers, Origin, ASync, aSync, aRequest, Verdict}
 use Rattle.story_exchange.specs.Held.{heldSync, originOf, origin, pending, stampOf, t3, lastLocal, verdicts, isHuge, isPath, delays}

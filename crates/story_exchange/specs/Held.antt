@@ -4,7 +4,7 @@ use mathlib.Core.Option.{Option, none, some}
 use mathlib.Core.Bool.{Bool, true, false, _&&_}
 use Prim.Native.Nat.{ℕ}
 use Rattle.numbers.specs.declared.stamp.Stamp.{Stamp}
-use Rattle.exchange.specs.Table.{Event}
+use Rattle.rules_exchange.specs.Table.{Event}
 use Rattle.story_lists.specs.Reading.{all, since, newest, or-else}
 use Rattle.story_exchange.specs.Log.{Log, events, answers, Origin, ASync, aSync, aFollowUp, aRequest, aT3, aDelayResp, aLocal, Verdict, neg, long, huge, path, accepted, aVerdict, aDelay, aUsed}
 

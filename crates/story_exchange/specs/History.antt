@@ -1,12 +1,12 @@
 -- The history: all that happened, the newest first. What the log is after it, and the answer to the next event.
 use mathlib.Core.List.{List, [], _∷_}
 use mathlib.Core.Bool.{Bool, true, false, cond}
-use Rattle.exchange.specs.declared.Answer.{Answer}
-use Rattle.exchange.specs.declared.Answer.the-variants.{Refused, Held, Paired, Asked, Stamped, Back, Neg, Long, Huge, HugeFaulty, Path, PathWipes, Step, Measured}
-use Rattle.exchange.specs.declared.Exchange.{Exchange}
-use Rattle.exchange.specs.Table.{Event}
-use Rattle.exchange.specs.Answers.{wipes}
-use Rattle.exchange.specs.Events.{freshExchange, told}
+use Rattle.rules_exchange.specs.declared.Answer.{Answer}
+use Rattle.rules_exchange.specs.declared.Answer.the-variants.{Refused, Held, Paired, Asked, Stamped, Back, Neg, Long, Huge, HugeFaulty, Path, PathWipes, Step, Measured}
+use Rattle.rules_exchange.specs.declared.Exchange.{Exchange}
+use Rattle.rules_exchange.specs.Table.{Event}
+use Rattle.rules_exchange.specs.Answers.{wipes}
+use Rattle.rules_exchange.specs.Events.{freshExchange, told}
 use Rattle.story_exchange.specs.Log.{Log, line}
 use Rattle.story_exchange.specs.Rules.{answer}
 

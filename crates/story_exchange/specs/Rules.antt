@@ -9,15 +9,15 @@ use lib.ListN.{take}
 use Rattle.numbers.specs.Stamps.{belowOf}
 use Rattle.numbers.specs.declared.stamp.Stamp.{Stamp}
 use Rattle.numbers.specs.declared.refusal.Refusal.the-variants.{Field, Correction, Unmatched}
-use Rattle.exchange.specs.declared.Answer.{Answer}
-use Rattle.exchange.specs.declared.Answer.the-variants.{Refused, Held, Paired, Asked, Stamped, Back, Neg, Long, Huge, HugeFaulty, Path, PathWipes, Step}
-use Rattle.exchange.specs.declared.measure.Sum.{Sum}
-use Rattle.exchange.specs.declared.measure.Sum.the-variants.{Delay, Neg as SumNeg, Long as SumLong}
-use Rattle.exchange.specs.Median.{lowerMiddle}
-use Rattle.exchange.specs.Delays.{apart}
-use Rattle.exchange.specs.Measure.{forwardOf, backOf, sumOf, hugeOf, stepOf}
-use Rattle.exchange.specs.Table.{Event, oneStep, twoStep, followUp, requested, sent, delayResp, samePort}
-use Rattle.exchange.specs.Events.{fieldOf, correctionIn, ns, measuredAs}
+use Rattle.rules_exchange.specs.declared.Answer.{Answer}
+use Rattle.rules_exchange.specs.declared.Answer.the-variants.{Refused, Held, Paired, Asked, Stamped, Back, Neg, Long, Huge, HugeFaulty, Path, PathWipes, Step}
+use Rattle.rules_exchange.specs.declared.measure.Sum.{Sum}
+use Rattle.rules_exchange.specs.declared.measure.Sum.the-variants.{Delay, Neg as SumNeg, Long as SumLong}
+use Rattle.rules_exchange.specs.Median.{lowerMiddle}
+use Rattle.rules_exchange.specs.Delays.{apart}
+use Rattle.rules_exchange.specs.Measure.{forwardOf, backOf, sumOf, hugeOf, stepOf}
+use Rattle.rules_exchange.specs.Table.{Event, oneStep, twoStep, followUp, requested, sent, delayResp, samePort}
+use Rattle.rules_exchange.specs.Events.{fieldOf, correctionIn, ns, measuredAs}
 use Rattle.story_exchange.specs.Log.{Log, Origin, ASync, aLocal}
 use Rattle.story_exchange.specs.Held.{heldSync, origin, pending, t3, lastLocal, verdicts, isHuge, isPath, lastTwo, delays, lastDelay, lastUsed}
 

@@ -6,13 +6,13 @@ use mathlib.Core.Bool.{Bool, true, false, cond}
 use Prim.Native.Nat.{ℕ, _≤_}
 use native.Mathlib.Omega.{arith}
 use lib.ListN.{length}
-use Rattle.masters.specs.declared.record.Announce.{Announce}
-use Rattle.masters.specs.declared.record.Record.{Record}
-use Rattle.masters.specs.Records.{qualifiedOf}
-use Rattle.masters.specs.Comparison.{betterOf}
-use Rattle.masters.specs.Choosing.{those, keeps, choiceAmong, inOrder, asChoice}
-use Rattle.masters.specs.Holding.{chosenOf}
-use Rattle.masters.specs.Places.{placeOf, countOf}
+use Rattle.rules_masters.specs.declared.record.Announce.{Announce}
+use Rattle.rules_masters.specs.declared.record.Record.{Record}
+use Rattle.rules_masters.specs.Records.{qualifiedOf}
+use Rattle.rules_masters.specs.Comparison.{betterOf}
+use Rattle.rules_masters.specs.Choosing.{those, keeps, choiceAmong, inOrder, asChoice}
+use Rattle.rules_masters.specs.Holding.{chosenOf}
+use Rattle.rules_masters.specs.Places.{placeOf, countOf}
 use Rattle.story_lists.specs.Reading.{all, with-it}
 use Rattle.story_masters.specs.Announces.{Arrival, qualified, better}
 use Rattle.story_masters.specs.Places.{asMaster}

@@ -10,21 +10,21 @@ use lib.Dec.{leb, ltb, eqb}
 use lib.ListN.{length, getD, set, length-set}
 use lib.Seq.{getD-set-same, getD-set-other}
 use Rattle.numbers.specs.declared.refusal.Refusal.the-variants.{Repeat, Full}
-use Rattle.layout.specs.declared.message.Port.{Port}
-use Rattle.masters.specs.declared.record.Announce.{Announce}
-use Rattle.masters.specs.declared.record.Record.{Record}
-use Rattle.masters.specs.declared.admission.Admitted.{Admitted}
-use Rattle.masters.specs.declared.admission.Answer.{Answer}
-use Rattle.masters.specs.declared.admission.Answer.the-variants.{Renewed, Entered}
-use Rattle.masters.specs.declared.admission.Verdict.{Verdict}
-use Rattle.masters.specs.declared.admission.Verdict.the-variants.{Clear, Barred}
-use Rattle.masters.specs.Records.{intervalOf, liveOf, knownOf, qualifiedOf, emptyRecord, enteredOf, renewedOf}
-use Rattle.masters.specs.Places.{placeOf, countOf, absent, emptyTable}
-use Rattle.masters.specs.Admitting.{Ground, firstOf, entrance, home as homeIn, seating, acceptedOf, given, admittedOf}
-use Rattle.masters.specs.Choosing.{those, choiceAmong, inOrder, choiceOf}
-use Rattle.masters.specs.Holding.{chosenOf}
-use Rattle.masters.proofs.Grounds.{clear-cons, clear-append}
-use Rattle.masters.proofs.Placing.{place-holds, has-room, opposite}
+use Rattle.wire_layout.specs.declared.message.Port.{Port}
+use Rattle.rules_masters.specs.declared.record.Announce.{Announce}
+use Rattle.rules_masters.specs.declared.record.Record.{Record}
+use Rattle.rules_masters.specs.declared.admission.Admitted.{Admitted}
+use Rattle.rules_masters.specs.declared.admission.Answer.{Answer}
+use Rattle.rules_masters.specs.declared.admission.Answer.the-variants.{Renewed, Entered}
+use Rattle.rules_masters.specs.declared.admission.Verdict.{Verdict}
+use Rattle.rules_masters.specs.declared.admission.Verdict.the-variants.{Clear, Barred}
+use Rattle.rules_masters.specs.Records.{intervalOf, liveOf, knownOf, qualifiedOf, emptyRecord, enteredOf, renewedOf}
+use Rattle.rules_masters.specs.Places.{placeOf, countOf, absent, emptyTable}
+use Rattle.rules_masters.specs.Admitting.{Ground, firstOf, entrance, home as homeIn, seating, acceptedOf, given, admittedOf}
+use Rattle.rules_masters.specs.Choosing.{those, choiceAmong, inOrder, choiceOf}
+use Rattle.rules_masters.specs.Holding.{chosenOf}
+use Rattle.rules_masters.proofs.Grounds.{clear-cons, clear-append}
+use Rattle.rules_masters.proofs.Placing.{place-holds, has-room, opposite}
 use Rattle.story_lists.specs.Reading.{all, with-it}
 use Rattle.story_masters.specs.Announces.{Log, came, passed, lastNow, Arrival, senderOf, at, places, isLive, isHome, better}
 use Rattle.story_masters.specs.Places.{lastIs, home, free, grounds, seat, answer, asMaster, chosen}

@@ -7,11 +7,11 @@ use Prim.Native.Nat.{ℕ, _+_, _*_, _<_, _≤_}
 use native.Mathlib.Omega.{arith}
 use borrow.Author.Tests.{lt-leb, leb-false}
 use lib.Dec.{leb}
-use Rattle.layout.specs.declared.message.Port.{Port}
-use Rattle.masters.specs.declared.record.Announce.{Announce}
-use Rattle.masters.specs.declared.record.Record.{Record}
-use Rattle.masters.specs.Records.{liveOf, knownOf, qualifiedOf, sameKeyOf, enteredOf, renewedOf}
-use Rattle.masters.specs.Places.{absent}
+use Rattle.wire_layout.specs.declared.message.Port.{Port}
+use Rattle.rules_masters.specs.declared.record.Announce.{Announce}
+use Rattle.rules_masters.specs.declared.record.Record.{Record}
+use Rattle.rules_masters.specs.Records.{liveOf, knownOf, qualifiedOf, sameKeyOf, enteredOf, renewedOf}
+use Rattle.rules_masters.specs.Places.{absent}
 use Rattle.story_lists.specs.Reading.{all, newest, first, with-it}
 use Rattle.story_masters.specs.Announces.{Arrival, senderOf, isLive, isHome, twoGood, from, qualified}
 

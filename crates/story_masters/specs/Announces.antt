@@ -4,10 +4,10 @@ use mathlib.Core.Option.{Option, none, some}
 use mathlib.Core.Bool.{Bool, false, cond, _&&_}
 use Prim.Native.Nat.{ℕ, _+_, _*_}
 use lib.Dec.{leb, eqb}
-use Rattle.layout.specs.declared.message.Port.{Port}
-use Rattle.masters.specs.declared.record.Announce.{Announce}
-use Rattle.masters.specs.Records.{sameKeyOf}
-use Rattle.masters.specs.Comparison.{smaller, merits, distance}
+use Rattle.wire_layout.specs.declared.message.Port.{Port}
+use Rattle.rules_masters.specs.declared.record.Announce.{Announce}
+use Rattle.rules_masters.specs.Records.{sameKeyOf}
+use Rattle.rules_masters.specs.Comparison.{smaller, merits, distance}
 use Rattle.story_lists.specs.Reading.{all, newest}
 
 pub data Line : Type 0 where

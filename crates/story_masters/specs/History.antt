@@ -3,14 +3,14 @@ use mathlib.Core.List.{List, [], _∷_}
 use mathlib.Core.Bool.{cond}
 use Prim.Native.Nat.{ℕ}
 use lib.Dec.{ltb}
-use Rattle.layout.specs.declared.message.Port.{Port}
-use Rattle.masters.specs.declared.record.Announce.{Announce}
-use Rattle.masters.specs.declared.table.Table.{Table}
-use Rattle.masters.specs.declared.admission.Admitted.{Admitted}
-use Rattle.masters.specs.declared.admission.Answer.{Answer}
-use Rattle.masters.specs.declared.admission.Answer.the-variants.{Refused, Renewed, Entered}
-use Rattle.masters.specs.Admitting.{admittedOf}
-use Rattle.masters.specs.Places.{emptyTable}
+use Rattle.wire_layout.specs.declared.message.Port.{Port}
+use Rattle.rules_masters.specs.declared.record.Announce.{Announce}
+use Rattle.rules_masters.specs.declared.table.Table.{Table}
+use Rattle.rules_masters.specs.declared.admission.Admitted.{Admitted}
+use Rattle.rules_masters.specs.declared.admission.Answer.{Answer}
+use Rattle.rules_masters.specs.declared.admission.Answer.the-variants.{Refused, Renewed, Entered}
+use Rattle.rules_masters.specs.Admitting.{admittedOf}
+use Rattle.rules_masters.specs.Places.{emptyTable}
 use Rattle.story_masters.specs.Announces.{Log, came, passed, lastNow}
 use Rattle.story_masters.specs.Places.{answer}
 

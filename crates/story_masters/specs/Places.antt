@@ -5,18 +5,18 @@ use mathlib.Core.Bool.{Bool, true, false, cond, not, _&&_}
 use Prim.Native.Nat.{ℕ}
 use lib.Dec.{leb, ltb, eqb}
 use Rattle.numbers.specs.declared.refusal.Refusal.the-variants.{Repeat, Full}
-use Rattle.layout.specs.declared.message.Port.{Port}
-use Rattle.masters.specs.declared.record.Announce.{Announce}
-use Rattle.masters.specs.declared.chosen.Chosen.{Chosen}
-use Rattle.masters.specs.declared.admission.Answer.{Answer}
-use Rattle.masters.specs.declared.admission.Answer.the-variants.{Refused, Renewed, Entered}
-use Rattle.masters.specs.declared.admission.Verdict.{Verdict}
-use Rattle.masters.specs.declared.admission.Verdict.the-variants.{Clear, Barred}
-use Rattle.masters.specs.Admitting.{Ground, firstOf, entrance}
-use Rattle.masters.specs.Choosing.{choiceAmong}
-use Rattle.masters.specs.Holding.{nobody}
-use Rattle.masters.specs.Places.{placeOf, countOf}
-use Rattle.masters.specs.Records.{intervalOf}
+use Rattle.wire_layout.specs.declared.message.Port.{Port}
+use Rattle.rules_masters.specs.declared.record.Announce.{Announce}
+use Rattle.rules_masters.specs.declared.chosen.Chosen.{Chosen}
+use Rattle.rules_masters.specs.declared.admission.Answer.{Answer}
+use Rattle.rules_masters.specs.declared.admission.Answer.the-variants.{Refused, Renewed, Entered}
+use Rattle.rules_masters.specs.declared.admission.Verdict.{Verdict}
+use Rattle.rules_masters.specs.declared.admission.Verdict.the-variants.{Clear, Barred}
+use Rattle.rules_masters.specs.Admitting.{Ground, firstOf, entrance}
+use Rattle.rules_masters.specs.Choosing.{choiceAmong}
+use Rattle.rules_masters.specs.Holding.{nobody}
+use Rattle.rules_masters.specs.Places.{placeOf, countOf}
+use Rattle.rules_masters.specs.Records.{intervalOf}
 use Rattle.story_lists.specs.Reading.{all}
 use Rattle.story_masters.specs.Announces.{Log, lastNow, Arrival, senderOf, at, places, isLive, isHome, qualified, better}
 

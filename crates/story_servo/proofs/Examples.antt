@@ -4,7 +4,7 @@ use mathlib.Core.List.{List, [], _∷_}
 use Prim.Native.Nat.{ℕ, _*_}
 use lib.IntN.{ℤ, pos, negsuc}
 use Rattle.numbers.specs.Rounding.{roundN}
-use Rattle.servo.specs.Offsets.{oppositesIn}
+use Rattle.rules_servo.specs.Offsets.{oppositesIn}
 use Rattle.story_servo.specs.Offsets.{current, swings, halved, gained, integral, output}
 
 abbrev limit : ℕ

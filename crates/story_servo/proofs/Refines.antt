@@ -7,11 +7,11 @@ use native.Mathlib.Omega.{arith}
 use lib.IntN.{ℤ}
 use lib.ListN.{take}
 use lib.Seq.{take-take}
-use Rattle.servo.specs.declared.Servo.{Servo}
-use Rattle.servo.specs.Offsets.{lastTen, swinging}
-use Rattle.servo.specs.Ten.{listOf}
-use Rattle.servo.specs.Steps.{integralWith, outputWith, steeredBy, halvedFrom, steppedBy}
-use Rattle.servo.proofs.Tens.{noted-list}
+use Rattle.rules_servo.specs.declared.Servo.{Servo}
+use Rattle.rules_servo.specs.Offsets.{lastTen, swinging}
+use Rattle.rules_servo.specs.Ten.{listOf}
+use Rattle.rules_servo.specs.Steps.{integralWith, outputWith, steeredBy, halvedFrom, steppedBy}
+use Rattle.rules_servo.proofs.Tens.{noted-list}
 use Rattle.story_servo.specs.Offsets.{current, swings, ten, halved, gained, integral, output, machine}
 
 module _ (kp ki k limit : ℕ) where

@@ -1,6 +1,7 @@
--- What is proved of the unit's calls.
-mod Bars
-pub mod Unheard
-pub mod Pulses
-pub mod Fair
-pub mod Lasting
+-- What is proved of the card. Demands comes first for a reader: it states what the others prove.
+pub mod Fairly
+mod Refusals
+mod Faults
+pub mod Simulation
+pub mod Demands
+pub mod Numbers

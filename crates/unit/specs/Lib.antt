@@ -1,10 +1,2 @@
-pub mod Wipe
-pub mod Effects
-pub mod Choosing
-pub mod Measuring
-pub mod Ticking
-pub mod Showing
-pub mod Hearing
-pub mod Receiving
-pub mod Frame
-pub mod Refusing
+pub mod Calls
+pub mod Story

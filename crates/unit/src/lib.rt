@@ -1,83 +1,33 @@
-// The unit: what each call of document 01 does, on the parts it touches. One wipe for all.
-pub mod calls;
-pub mod choosing;
-pub mod frame;
-pub mod hearing;
-pub mod measuring;
-pub mod run;
-pub mod showing;
-pub mod ticking;
-
+// The card: the unit of document 01 whole, with its servo, its table of masters and its watch. One step for each call.
 ghost use mathlib.Core.Path.{_≡_};
-ghost use Rattle.unit.specs.Wipe.{wipedFrom, freshDomain, freshUnit};
-ghost use Rattle.unit.specs.Effects.{staysOf, at, unlocked, keptBy, wipedBy};
-use calls::Answer;
-use masters::chosen::Chosen;
-use masters::table::Table;
-use numbers::refusal::Refusal;
-use run::Run;
-use servo::Servo;
-use settings::Settings;
-use watch::Watch;
+ghost use lib.ListN.{length};
+ghost use Rattle.unit_core.specs.Frame.{frameAfter};
+ghost use Rattle.unit.specs.Calls.{freshUnit, putBy, receiveOf, stepOf};
+use numbers::stamp::Stamp;
+use rules_masters::record::Announce;
+use rules_masters::table::Table;
+use rules_servo::Servo;
+use rules_settings::Settings;
+use rules_watch::Watch;
+use unit_core::Core;
+use unit_core::Moved;
+use unit_core::calls::Answer;
+use unit_core::calls::Call;
+use unit_core::frame;
+use wire_layout::message::Body;
+use wire_layout::message::Message;
 
-// What belongs to one domain.
-#[repr(C)]
-pub struct Domain {
-    pub chosen: Chosen,
-    pub run: Run,
-    pub wipes: u32, // the wipe count, modulo 2^32
-    pub faulty: bool,
-    pub sequence: u16, // of the next request
-}
-
-// The unit, without what is lent beside it: the servo, the table of masters, the watch.
 #[repr(C)]
 pub struct Unit {
-    pub settings: Settings,
-    pub now: u64, // the last accepted
-    pub domain: Domain,
-}
-
-// What a call leaves.
-pub struct Moved {
-    pub answer: Answer,
-    pub wipes: bool, // the watch is to be fresh too
-    pub unit: Unit,
+    pub core: Core,
     pub servo: Servo,
-}
-
-// What an Announce leaves.
-pub struct Seated {
     pub table: Table,
-    pub moved: Moved,
-}
-
-// What a second pulse leaves.
-pub struct Ticked {
     pub watch: Watch,
-    pub moved: Moved,
 }
 
-impl Domain {
-    fn fresh() -> Domain
-        ensures { λ r. ⌜ r ≡ freshDomain ⌝ }
-    {
-        Domain {
-            chosen: Chosen::fresh(),
-            run: Run::fresh(),
-            wipes: 0,
-            faulty: false,
-            sequence: 0,
-        }
-    }
-
-    fn wiped(mut self) -> Domain
-        ensures { λ r. ⌜ r ≡ wipedFrom self ⌝ }
-    {
-        self.run = Run::fresh();
-        self.wipes = ((self.wipes as u64 + 1) % 4294967296) as u32;
-        self
-    }
+pub struct Stepped {
+    pub answer: Answer,
+    pub unit: Unit,
 }
 
 impl Unit {
@@ -85,55 +35,93 @@ impl Unit {
         ensures { λ r. ⌜ r ≡ freshUnit settings ⌝ }
     {
         Unit {
-            settings,
-            now: 0,
-            domain: Domain::fresh(),
+            core: Core::fresh(settings),
+            servo: Servo::fresh(settings.kp, settings.ki),
+            table: Table::fresh(),
+            watch: Watch::fresh(),
         }
     }
 
-    // A refusal returns its number, and what came in.
-    pub(crate) fn refuse(self, servo: Servo, number: Refusal) -> Moved
-        ensures { λ r. ⌜ r ≡ keptBy self servo (Answer.Refused number) ⌝ }
+    // Unit and servo as a call left them, and a fresh watch where it wiped.
+    fn after(mut self, moved: Moved) -> Stepped
+        ensures { λ r. ⌜ r ≡ putBy self moved ⌝ }
     {
-        self.keep(servo, Answer::Refused(number))
+        let core = moved.core;
+        let servo = moved.servo;
+        let answer = moved.answer;
+        self.core = core;
+        self.servo = servo;
+        if moved.wipes {
+            self.watch = Watch::fresh();
+        }
+        Stepped { answer, unit: self }
     }
 
-    // Nothing but the answer.
-    pub(crate) fn keep(self, servo: Servo, answer: Answer) -> Moved
-        ensures { λ r. ⌜ r ≡ keptBy self servo answer ⌝ }
+    // A call that changes nothing.
+    fn says(self, answer: Answer) -> Stepped
+        ensures { λ r. ⌜ r ≡ record { answer = answer; unit = self } ⌝ }
     {
-        Moved {
-            answer,
-            wipes: false,
-            unit: self,
-            servo,
+        Stepped { answer, unit: self }
+    }
+
+    // A read message: an Announce is handed over with the table.
+    fn receive(mut self, now: u64, arrival: Stamp, m: Message) -> Stepped
+        ensures { λ r. ⌜ r ≡ receiveOf self now arrival m ⌝ }
+    {
+        let core = self.core;
+        let header = m.header;
+        let body = m.body;
+        match body {
+            Body::Announce(stamp, offer) => {
+                let announce = Announce {
+                    header,
+                    stamp,
+                    offer,
+                };
+                let seated = core.announce(self.servo, self.table, now, announce);
+                let table = seated.table;
+                self.table = table;
+                self.after(seated.moved)
+            }
+            _ => self.after(core.heard(self.servo, now, arrival, m)),
         }
     }
 
-    // The wipe: a fresh run and a fresh servo, and the count up by one. Chosen master, now and own sequenceId remain, and so does FAULTY.
-    pub(crate) fn wipe(mut self, now: u64, answer: Answer) -> Moved
-        ensures { λ r. ⌜ r ≡ wipedBy self answer (at now (staysOf self)) ⌝ }
+    // A second pulse.
+    fn tick(mut self, reference: i64, clock: i64) -> Stepped
+        ensures { λ r. ⌜ r ≡ stepOf self (Call.Tick reference clock) ⌝ }
     {
-        let domain = self.domain;
-        let wiped = domain.wiped();
-        self.now = now;
-        self.domain = wiped;
-        let servo = Servo::fresh(self.settings.kp, self.settings.ki);
-        Moved {
-            answer,
-            wipes: true,
-            unit: self,
-            servo,
-        }
+        let core = self.core;
+        let ticked = core.tick(self.servo, self.watch, reference, clock);
+        let watch = ticked.watch;
+        self.watch = watch;
+        self.after(ticked.moved)
     }
 
-    // The operator's reset, which alone ends FAULTY.
-    pub fn reset(mut self) -> Moved
-        ensures { λ r. ⌜ r ≡ wipedBy self Answer.Wiped (unlocked (staysOf self)) ⌝ }
+    // Any call, in any state.
+    pub fn step(self, call: Call) -> Stepped
+        ensures { λ r. ⌜ r ≡ stepOf self call ⌝ }
     {
-        let mut domain = self.domain;
-        domain.faulty = false;
-        self.domain = domain;
-        self.wipe(self.now, Answer::Wiped)
+        let core = self.core;
+        match call {
+            Call::Receive(now, arrival, m) => self.receive(now, arrival, m),
+            Call::Request(now, room) => self.after(core.request(self.servo, now, room)),
+            Call::Sent(now, sequence, t3) => {
+                self.after(core.sent(self.servo, now, sequence, t3))
+            }
+            Call::Time(now) => self.after(core.time(self.servo, self.table, now)),
+            Call::Reset => self.after(core.reset()),
+            Call::Tick(reference, clock) => self.tick(reference, clock),
+            Call::Line => self.says(core.line(self.watch)),
+            Call::Show => self.says(core.show(self.servo)),
+        }
     }
+}
+
+// The request into a lent frame: the unit's own Delay_Req stands behind the Ethernet header, or nothing is touched.
+pub fn request_into(unit: Unit, time: u64, frame: &mut [u8]) -> Stepped
+    ensures { λ r. ⌜ r ≡ stepOf unit (Call.Request time (length (now (frame .entry)))) ⌝ }
+    ensures { λ _. ⌜ now (frame .exit) ≡ frameAfter (unit .core) time (now (frame .entry)) ⌝ }
+{
+    unit.after(frame::request_into(unit.core, unit.servo, time, frame))
 }

@@ -1,22 +1,23 @@
--- `Unit::tick` meets its contract.
+-- `Card::tick` meets its contract.
+use Rattle.unit_core.specs.declared.calls.Call.the-variants.{Tick}
+use Rattle.unit.specs.Calls.{effectOn}
+use Rattle.unit.proofs.Fairly.{put-pulse}
 use Rattle.numbers.specs.Integers.{back}
-use Rattle.watch.specs.Watch.{told}
-use Rattle.unit.proofs.Pulses.{by-outcome}
+use mathlib.Core.Path.{_∙_}
 use borrow.Author.Needs.{needs}
 use Rattle.unit.proofs.Unit.tick.Statement.{statement}
 use Rattle.unit.proofs.Unit.tick.Tie as tie
 
-take-requires : tie.Need-take-requires
-take-requires c κs = search needs
+tick-requires : tie.Need-tick-requires
+tick-requires c κs = search needs
 
-pulsed-requires : tie.Need-pulsed-requires
-pulsed-requires c κs = search needs
+after-requires : tie.Need-after-requires
+after-requires c κs = search needs
 
 returns : tie.Need-returns
 returns c =
-    let s = c .before .before .before in
-    rw (c .pulsed .ensures, c .before .before .take .ensures, back (s .fits .reference), back (s .fits .clock))
-    (by-outcome (s .args .self) (s .args .servo) (s .args .watch) (told (s .args .watch)) (s .args .reference) (s .args .clock))
+    let s = c .before .before .before .before in
+    c .after .ensures ∙ rw (c .before .before .tick .ensures, back (s .fits .reference), back (s .fits .clock)) (put-pulse (s .args .self) (effectOn (s .args .self) (Tick (s .args .reference) (s .args .clock))))
 
 pub tick-spec : {M : Type 1} → statement M
-tick-spec = tie.close (tie.spec take-requires pulsed-requires returns)
+tick-spec = tie.close (tie.spec tick-requires after-requires returns)

@@ -1,0 +1,25 @@
+-- How many octets a call has in the store.
+use Prim.Native.Nat.{ℕ}
+use Rattle.bench_calls.specs.declared.Call.{Call}
+use Rattle.bench_calls.specs.declared.Call.the-variants.{Bad, Lend, Read, Write, Unit as OfUnit}
+use Rattle.bench_calls.specs.declared.units.UnitCall.{UnitCall}
+use Rattle.bench_calls.specs.declared.units.UnitCall.the-variants.{None, Make, Receive, Request, Sent, Time, Reset, Tick, Line, Show}
+
+abbrev pub heldByUnit : UnitCall → ℕ
+heldByUnit None = 0
+heldByUnit (Make s) = 0
+heldByUnit (Receive now t n) = n
+heldByUnit (Request now n) = 0
+heldByUnit (Sent now n t) = 0
+heldByUnit (Time now) = 0
+heldByUnit Reset = 0
+heldByUnit (Tick r c) = 0
+heldByUnit Line = 0
+heldByUnit Show = 0
+
+abbrev pub heldBy : Call → ℕ
+heldBy Bad = 0
+heldBy (Lend n) = 0
+heldBy (Read n) = n
+heldBy (Write m n room) = n
+heldBy (OfUnit c) = heldByUnit c

@@ -1,0 +1,16 @@
+-- `made_with` meets its contract.
+use borrow.Author.Needs.{needs}
+use Rattle.door_steps.proofs.made_with.Statement.{statement}
+use Rattle.door_steps.proofs.made_with.Tie as tie
+
+fresh-requires : tie.Need-fresh-requires
+fresh-requires c κs = search needs
+
+fresh-requires-2 : tie.Need-fresh-requires-2
+fresh-requires-2 c κs = search needs
+
+returns : tie.Need-returns
+returns c = rw (c .fresh2 .ensures, c .before .fresh .ensures)
+
+pub made-with-spec : {M : Type 1} → statement M
+made-with-spec = tie.close (tie.spec fresh-requires fresh-requires-2 returns)

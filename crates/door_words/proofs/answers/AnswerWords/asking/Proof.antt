@@ -1,0 +1,13 @@
+-- `answers::AnswerWords::asking` meets its contract.
+use borrow.Author.Needs.{needs}
+use Rattle.door_words.proofs.answers.AnswerWords.asking.Statement.{statement}
+use Rattle.door_words.proofs.answers.AnswerWords.asking.Tie as tie
+
+plain-requires : tie.Need-plain-requires
+plain-requires c κs = search needs
+
+returns : tie.Need-returns
+returns c = rw (c .plain .ensures)
+
+pub asking-spec : {M : Type 1} → statement M
+asking-spec = tie.close (tie.spec plain-requires returns)

@@ -1,0 +1,86 @@
+-- The two halves: which states each can be in, and how the unit's memory holds them.
+use mathlib.Core.Bool.{Bool, true, false, cond}
+use Prim.Native.Nat.{ℕ}
+use lib.Dec.{eqb}
+use lib.IntN.{ℤ, pos}
+use Rattle.numbers.specs.declared.stamp.Stamp.{Stamp}
+use Rattle.rules_exchange.specs.declared.halves.Sync.{Sync}
+use Rattle.rules_exchange.specs.declared.halves.Request.{Request}
+
+-- the half that a Sync begins: none is held; t2 is there and t1 is awaited; both are there
+pub data SyncHalf : Type 0 where
+  noSync : SyncHalf
+  awaits : (sequence : ℕ) (t2 : Stamp) (correction : ℤ) → SyncHalf
+  knows : (sequence : ℕ) (t1 t2 : Stamp) (correction follow : ℤ) → SyncHalf
+
+-- the half that a request begins: none is pending; t3 is awaited; it is there
+pub data RequestHalf : Type 0 where
+  noRequest : RequestHalf
+  asked : (sequence : ℕ) → RequestHalf
+  stamped : (sequence : ℕ) (t3 : Stamp) → RequestHalf
+
+-- read from the memory
+unfoldable pub syncHalf : Sync → SyncHalf
+syncHalf s =
+    cond (s .held)
+    (cond (s .known) (knows (s .sequence) (s .t1) (s .t2) (s .correction) (s .follow)) (awaits (s .sequence) (s .t2) (s .correction)))
+    noSync
+
+unfoldable pub requestHalf : Request → RequestHalf
+requestHalf r = cond (r .pending) (cond (r .given) (stamped (r .sequence) (r .t3)) (asked (r .sequence))) noRequest
+
+-- and kept in it: what is not there is 0
+abbrev pub noStamp : Stamp
+noStamp = record { seconds = 0; nanoseconds = 0 }
+
+abbrev pub asSync : SyncHalf → Sync
+asSync noSync = record { held = false; known = false; sequence = 0; t1 = noStamp; t2 = noStamp; correction = pos 0; follow = pos 0 }
+asSync (awaits n t2 c) = record { held = true; known = false; sequence = n; t1 = noStamp; t2 = t2; correction = c; follow = pos 0 }
+asSync (knows n t1 t2 c f) = record { held = true; known = true; sequence = n; t1 = t1; t2 = t2; correction = c; follow = f }
+
+abbrev pub asRequest : RequestHalf → Request
+asRequest noRequest = record { pending = false; given = false; sequence = 0; t3 = noStamp }
+asRequest (asked n) = record { pending = true; given = false; sequence = n; t3 = noStamp }
+asRequest (stamped n t3) = record { pending = true; given = true; sequence = n; t3 = t3 }
+
+abbrev pub freshSync : Sync
+freshSync = asSync noSync
+
+abbrev pub freshRequest : Request
+freshRequest = asRequest noRequest
+
+-- t1 is awaited for this sequenceId
+abbrev pub waits : SyncHalf → ℕ → Bool
+waits noSync n = false
+waits (awaits m t2 c) n = eqb m n
+waits (knows m t1 t2 c f) n = false
+
+abbrev pub waitsOf : Sync → ℕ → Bool
+waitsOf s n = waits (syncHalf s) n
+
+-- t1 and t2 are there
+abbrev pub ready : SyncHalf → Bool
+ready noSync = false
+ready (awaits m t2 c) = false
+ready (knows m t1 t2 c f) = true
+
+abbrev pub knowsOf : Sync → Bool
+knowsOf s = ready (syncHalf s)
+
+-- t3 is awaited for this sequenceId
+abbrev pub pends : RequestHalf → ℕ → Bool
+pends noRequest n = false
+pends (asked m) n = eqb m n
+pends (stamped m t3) n = false
+
+abbrev pub pendsOf : Request → ℕ → Bool
+pendsOf r n = pends (requestHalf r) n
+
+-- t3 is there, for this sequenceId
+abbrev pub answerable : RequestHalf → ℕ → Bool
+answerable noRequest n = false
+answerable (asked m) n = false
+answerable (stamped m t3) n = eqb m n
+
+abbrev pub givenOf : Request → ℕ → Bool
+givenOf r n = answerable (requestHalf r) n

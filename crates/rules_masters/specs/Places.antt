@@ -1,0 +1,27 @@
+-- Places of the table (document 01, "Masters").
+use Prim.Native.Nat.{ℕ, suc}
+use mathlib.Core.Bool.{Bool, cond, not}
+use mathlib.Core.List.{List, [], _∷_}
+use lib.ListN.{replicate}
+use Rattle.rules_masters.specs.declared.record.Record.{Record}
+use Rattle.rules_masters.specs.declared.table.Table.{Table}
+use Rattle.rules_masters.specs.Records.{liveOf, emptyRecord}
+
+module _ {A : Type 0} (p : A → Bool) where
+  -- the first place at which p holds, counted from 0; the length of the list where there is none
+  unfoldable pub placeOf : List A → ℕ
+  placeOf [] = 0
+  placeOf (x ∷ l) = cond (p x) 0 (suc (placeOf l))
+
+  -- how many there are of which p holds
+  unfoldable pub countOf : List A → ℕ
+  countOf [] = 0
+  countOf (x ∷ l) = cond (p x) (suc (countOf l)) (countOf l)
+
+-- "a record not live counts as absent"
+unfoldable pub absent : ℕ → ℕ → Record → Bool
+absent now interval r = not (liveOf now interval r)
+
+-- "a fresh unit .. with an empty table"
+abbrev pub emptyTable : Table
+emptyTable = record { records = replicate 5 emptyRecord }

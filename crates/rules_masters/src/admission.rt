@@ -1,0 +1,111 @@
+// The admission of an Announce into the table.
+ghost use mathlib.Core.Path.{_≡_};
+ghost use Rattle.rules_masters.specs.Admitting.{alternateOf, entrance, firstOf, admittedOf, seatedOf};
+use crate::record::Announce;
+use crate::record::Record;
+use crate::record::interval;
+use crate::table::Table;
+use numbers::refusal::Refusal;
+use wire_layout::message::Port;
+
+// What became of an Announce: its refusal, or the place whose record it renewed, or the place that its new sender took.
+pub enum Answer {
+    Refused(Refusal),
+    Renewed(usize),
+    Entered(usize),
+}
+
+// The answer, and the table after it.
+pub struct Admitted {
+    pub answer: Answer,
+    pub table: Table,
+}
+
+// The first refusal that is due, if one is.
+pub enum Verdict {
+    Clear,
+    Barred(Refusal),
+}
+
+// "In octet 6, bit 0 is alternate master": bit 8 of the two octets of flags.
+fn alternate(announce: Announce) -> bool
+    ensures { λ r. ⌜ r ≡ alternateOf announce ⌝ }
+{
+    announce.header.flags / 256 % 2 == 1
+}
+
+// The refusals that need no table, in the paper's order.
+fn barred(announce: Announce, domain: u8, own: Port, last: u64, now: u64) -> Verdict
+    ensures { λ r. ⌜ r ≡ firstOf (entrance announce domain own last now) ⌝ }
+{
+    if now < last {
+        return Verdict::Barred(Refusal::Now);
+    }
+    if announce.header.domain != domain {
+        return Verdict::Barred(Refusal::Domain);
+    }
+    if announce.header.source.clock == own.clock {
+        return Verdict::Barred(Refusal::Own);
+    }
+    if alternate(announce) {
+        return Verdict::Barred(Refusal::Alternate);
+    }
+    if 255 <= announce.offer.steps {
+        return Verdict::Barred(Refusal::Steps);
+    }
+    Verdict::Clear
+}
+
+// The refusals that look into the table; an Announce that none of them meets takes its place there.
+fn seat(mut table: Table, announce: Announce, interval: u32, now: u64) -> Admitted
+    ensures { λ r. ⌜ r ≡ seatedOf table announce interval now ⌝ }
+{
+    let home = table.home(announce.header.source, now, interval);
+    if home < 5 {
+        let known = table.records[home];
+        if known.announce.header.sequence == announce.header.sequence {
+            return Admitted {
+                answer: Answer::Refused(Refusal::Repeat),
+                table,
+            };
+        }
+        table.records[home] = known.renewed(announce, now);
+        return Admitted {
+            answer: Answer::Renewed(home),
+            table,
+        };
+    }
+    let free = table.free(now, interval);
+    if free < 5 {
+        table.records[free] = Record::entered(announce, now);
+        return Admitted {
+            answer: Answer::Entered(free),
+            table,
+        };
+    }
+    Admitted {
+        answer: Answer::Refused(Refusal::Full),
+        table,
+    }
+}
+
+// An Announce at `now`. `last` is the last accepted now, a the announce exponent.
+pub fn admit(
+    table: Table,
+    announce: Announce,
+    domain: u8,
+    own: Port,
+    a: u8,
+    last: u64,
+    now: u64,
+) -> Admitted
+    ensures { λ r. ⌜ r ≡ admittedOf table announce domain own a last now ⌝ }
+{
+    match barred(announce, domain, own, last, now) {
+        Verdict::Barred(refusal) => Admitted {
+            answer: Answer::Refused(refusal),
+            table,
+        },
+        Verdict::Clear => seat(table, announce, interval(a), now),
+    }
+}

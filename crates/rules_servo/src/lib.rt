@@ -1,0 +1,121 @@
+// The servo of document 01 (000): from an accepted offset to a rate in parts per billion.
+ghost use mathlib.Core.Path.{_≡_};
+ghost use Prim.Native.Nat.{_-_, _^_};
+ghost use lib.IntN.{pos};
+ghost use Rattle.rules_servo.specs.Steps.{accepted, limitOf, halfGain, freshWith, steeredBy, halvedFrom, steppedBy};
+
+pub mod shown;
+pub mod ten;
+
+use crate::ten::Ten;
+use numbers::rounding;
+use numbers::units::Nanoseconds;
+use numbers::units::Ppb;
+
+// With an I this far from 0 or farther the limit is passed whatever the offset, so that the sum may be made with this one.
+const FAR: u64 = 1000000000000000;
+
+#[repr(C)]
+pub struct Servo {
+    pub integral: i64, // I, in 1/128,000 ppb
+    pub kp: u16, // in thousandths
+    pub ki: u16, // in thousandths
+    pub ten: Ten,
+    pub output: Ppb, // positive slows the clock
+}
+
+fn gain(thousandths: u16) -> i64
+    ensures { λ r. ⌜ r ≡ pos thousandths ⌝ }
+{
+    thousandths as i64
+}
+
+fn half_gain(thousandths: u16) -> u16
+    ensures { λ r. ⌜ r ≡ halfGain thousandths ⌝ }
+{
+    if thousandths < 2 { 1 } else { thousandths / 2 }
+}
+
+// 128 times the seconds between two samples.
+fn pace(k: u8) -> i64
+    ensures { λ r. ⌜ r ≡ pos (2 ^ (7 - k)) ⌝ }
+{
+    if k < 7 {
+        let s: u64 = 1 << (7 - k);
+        s as i64
+    } else {
+        1
+    }
+}
+
+// The limit in 1/128,000 ppb.
+fn units_of(limit: Ppb) -> u64
+    ensures { λ r. ⌜ r ≡ limitOf (limit .0) ⌝ }
+{
+    let ppb = limit.0;
+    if ppb < 0 {
+        0
+    } else if ppb < 100000 {
+        ppb as u64 * 128000
+    } else {
+        12800000000
+    }
+}
+
+impl Servo {
+    // As after a wipe, with the set gains.
+    pub fn fresh(kp: u16, ki: u16) -> Servo
+        ensures { λ r. ⌜ r ≡ freshWith kp ki ⌝ }
+    {
+        Servo {
+            integral: 0,
+            kp,
+            ki,
+            ten: Ten::empty(),
+            output: Ppb(0),
+        }
+    }
+
+    // I and the output with this offset, which is then among the ten. An accepted one is within 100,000,000.
+    fn steered(self, offset: Nanoseconds, k: u8, limit: Ppb) -> Servo
+        ensures { λ r. ⌜ r ≡ steeredBy self (accepted (offset .0)) k (limitOf (limit .0)) ⌝ }
+    {
+        let x = rounding::within(offset.0, 100000000);
+        let units = units_of(limit);
+        let gained = rounding::within(self.integral, FAR) + gain(self.ki) * x * pace(k);
+        let integral = rounding::within(gained, units);
+        let output = rounding::within(gain(self.kp) * x * 128 + integral, units);
+        let ten = self.ten;
+        Servo {
+            integral,
+            kp: self.kp,
+            ki: self.ki,
+            ten: ten.with(x as i32),
+            output: Ppb(rounding::whole_ppb(output) as i32),
+        }
+    }
+
+    // The gains halved, I 0 and the ten emptied.
+    fn halved(mut self) -> Servo
+        ensures { λ r. ⌜ r ≡ halvedFrom self ⌝ }
+    {
+        self.kp = half_gain(self.kp);
+        self.ki = half_gain(self.ki);
+        self.integral = 0;
+        self.ten = Ten::empty();
+        self
+    }
+
+    // One accepted offset. The rate is then the record's output.
+    pub fn step(self, offset: Nanoseconds, k: u8, limit: Ppb) -> Servo
+        ensures { λ r. ⌜ r ≡ steppedBy self (accepted (offset .0)) k (limitOf (limit .0)) ⌝ }
+    {
+        let steered = self.steered(offset, k, limit);
+        let ten = steered.ten;
+        if ten.swings() {
+            steered.halved()
+        } else {
+            steered
+        }
+    }
+}

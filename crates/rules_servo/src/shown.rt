@@ -1,0 +1,72 @@
+// What the servo shows: HOLDOVER, TRACKING or ADJUSTING.
+ghost use mathlib.Core.Path.{_≡_};
+ghost use Rattle.rules_servo.specs.Shows.{isTracking, isHoldover, showing};
+ghost use Rattle.rules_servo.specs.Ten.{listOf};
+use crate::Servo;
+use crate::ten::Ten;
+use numbers::rounding;
+
+pub enum Shown {
+    Holdover,
+    Tracking,
+    Adjusting,
+}
+
+struct Totals {
+    sum: i64,
+    squares: i64,
+}
+
+// Ten are held, none beyond 99 either way, and they lie close together.
+fn tracking(ten: Ten) -> bool
+    ensures { λ r. ⌜ r ≡ isTracking (listOf ten) ⌝ }
+{
+    if ten.count < 10 {
+        return false;
+    }
+    let offsets = ten.offsets;
+    let mut totals = Totals { sum: 0, squares: 0 };
+    let mut i: usize = 0;
+    while i < 10 {
+        let x = offsets[i] as i64;
+        if 99 < rounding::magnitude(x) {
+            return false;
+        }
+        totals = Totals {
+            sum: totals.sum + x,
+            squares: totals.squares + x * x,
+        };
+        i += 1;
+    }
+    10 * totals.squares - totals.sum * totals.sum < 5000
+}
+
+// now is over 10,000 ms past the last accepted measurement, where there was one since the wipe.
+pub fn holdover(measured: bool, last: u64, now: u64) -> bool
+    ensures { λ r. ⌜ r ≡ isHoldover measured last now ⌝ }
+{
+    if measured {
+        if last < now {
+            10000 < now - last
+        } else {
+            false
+        }
+    } else {
+        false
+    }
+}
+
+impl Servo {
+    pub fn shows(self, holdover: bool) -> Shown
+        ensures { λ r. ⌜ r ≡ showing self holdover ⌝ }
+    {
+        let ten = self.ten;
+        if holdover {
+            Shown::Holdover
+        } else if tracking(ten) {
+            Shown::Tracking
+        } else {
+            Shown::Adjusting
+        }
+    }
+}

@@ -1,0 +1,6 @@
+-- What is proved of the unit's calls.
+mod Bars
+pub mod Unheard
+pub mod Pulses
+pub mod Fair
+pub mod Lasting

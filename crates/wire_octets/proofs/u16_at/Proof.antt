@@ -1,0 +1,28 @@
+-- `u16_at` meets its contract.
+use native.Mathlib.Nat.{add-zero}
+use native.Mathlib.Omega.{arith}
+use Rattle.wire_octets.specs.Octets.{num}
+use borrow.Author.Needs.{needs}
+use Rattle.wire_octets.proofs.u16_at.Statement.{statement}
+use Rattle.wire_octets.proofs.u16_at.Tie as tie
+
+shared-slice-read-pair : tie.Need-shared-slice-read-pair
+shared-slice-read-pair c = search needs
+
+add-pair : tie.Need-add-pair
+add-pair c = search needs
+
+shared-slice-read-pair-2 : tie.Need-shared-slice-read-pair-2
+shared-slice-read-pair-2 c = search needs
+
+pair-requires : tie.Need-pair-requires
+pair-requires c κs = search needs
+
+returns : tie.Need-returns
+unfolding num
+returns c = rw add-zero (omega arith)
+
+pub u16-at-spec : {M : Type 1} → statement M
+u16-at-spec =
+    tie.close
+    (tie.spec shared-slice-read-pair add-pair shared-slice-read-pair-2 pair-requires returns)

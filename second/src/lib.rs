@@ -14,5 +14,6 @@ pub mod refusal;
 pub mod servo;
 pub mod settings;
 pub mod text;
+pub mod trial;
 pub mod unit;
 pub mod watch;

@@ -2,6 +2,9 @@
 //!
 //! A line `> CALL` is followed by `< ANSWER`; any other line is a comment and derives it.
 
+// A story is one text, however long.
+#![allow(clippy::too_many_lines)]
+
 use second::answerer::Answerer;
 
 fn follow(story: &str) {

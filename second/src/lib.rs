@@ -11,6 +11,7 @@ pub mod masters;
 pub mod message;
 pub mod nearest;
 pub mod refusal;
+pub mod report;
 pub mod servo;
 pub mod settings;
 pub mod text;

@@ -2,13 +2,15 @@
 //!
 //!     second answer                             answers a list of calls, standard input to output
 //!     second list NAME                          writes a list: wire, masters, exchange, watch, card,
-//!                                               sequence, whole (all but sequence), stored
+//!                                               whole (these five), stored, sequence, hour
 //!     second list random SEED COUNT             writes a random list of COUNT calls
 //!     second compare PROGRAM SEED LISTS COUNT   runs LISTS random lists of COUNT calls through
 //!                                               the bench PROGRAM and through itself
 //!     second compare PROGRAM NAME               the same with one list by its name
 //!     second try [WORD..] -- COMMAND..          plays random lists to COMMAND, any build that reads
 //!                                               lists and writes answers, and to the proved bench
+//!     second report LIST                        writes a page of HTML with pictures of what the list
+//!                                               in the file LIST comes to
 //!     second help                               this page
 //!
 //! `compare` says how many calls agreed, or the first difference with exit status 1. The bench
@@ -33,8 +35,9 @@
 //! words; 3 nothing could be tried: COMMAND or the program compared with can't be run.
 
 use second::trial::{self, found, plan::Plan, End};
-use second::{answerer, compare, lists};
+use second::{answerer, compare, lists, report};
 use std::io::{self, Write};
+use std::path::Path;
 use std::process::ExitCode;
 
 fn main() -> ExitCode {
@@ -64,6 +67,7 @@ fn run(words: &[&str]) -> Option<Result<(), String>> {
             let done = answerer::answer(io::stdin().lock(), io::stdout().lock());
             Some(done.map_err(|error| error.to_string()))
         }
+        ["report", path] => Some(write_report(path)),
         ["list", "random", seed, count] => {
             let list = lists::random::list(seed.parse().ok()?, count.parse().ok()?);
             Some(put(&list))
@@ -77,6 +81,12 @@ fn run(words: &[&str]) -> Option<Result<(), String>> {
         ["compare", program, name] => Some(tell(compare::named_list(program, name))),
         _ => None,
     }
+}
+
+fn write_report(path: &str) -> Result<(), String> {
+    let list = std::fs::read(path).map_err(|error| format!("{path}: {error}"))?;
+    let name = Path::new(path).file_name().unwrap_or_default();
+    put(report::page(&name.to_string_lossy(), &list).as_bytes())
 }
 
 fn put(octets: &[u8]) -> Result<(), String> {

@@ -34,3 +34,28 @@ pub fn refuse(when: bool, number: Refusal) -> Result<(), Refusal> {
         Ok(())
     }
 }
+
+/// The names as the papers and docs/BENCH.md write them, in the order of their numbers.
+pub const NAMES: [&str; 21] = [
+    "SHORT",
+    "VERSION",
+    "KIND",
+    "LENGTH",
+    "FIELD",
+    "SUFFIX",
+    "ROOM",
+    "SETTINGS",
+    "NOW",
+    "DOMAIN",
+    "OWN",
+    "ALTERNATE",
+    "STEPS",
+    "REPEAT",
+    "FULL",
+    "NOT_MASTER",
+    "UNMATCHED",
+    "FAULTY",
+    "CORRECTION",
+    "TICK",
+    "NOT_READY",
+];

@@ -1,0 +1,10 @@
+//! The report: a list of calls and what it comes to, as one page of HTML with pictures in it.
+
+mod course;
+mod draw;
+mod drift;
+mod page;
+mod scale;
+mod story;
+
+pub use page::page;

@@ -94,9 +94,9 @@ impl Course {
 
     fn offsets(&self, life: &Life, svg: &mut Svg) {
         let sizes = life.measured.iter().map(|one| one.offset.abs() as f64);
-        let scale = offset_scale(sizes.collect());
+        let (scale, name) = offset_scale(sizes.collect());
         svg.left_axis(&scale, (LEFT, RIGHT), 6);
-        svg.upright(14.0, (OFFSET.0 + OFFSET.1) / 2.0, "offset, ns");
+        svg.upright(14.0, (OFFSET.0 + OFFSET.1) / 2.0, name);
         let value = |one: &Measured| one.offset as f64;
         self.curve(life, svg, &Curve { scale: &scale, value, class: "offset", stands: false });
     }
@@ -140,16 +140,16 @@ impl Course {
     }
 }
 
-/// As they are where they are of a size; bent where a few stand far out.
-fn offset_scale(mut sizes: Vec<f64>) -> Scale {
+/// As they are where they are of a size; bent where a few stand far out. With the axis' name.
+fn offset_scale(mut sizes: Vec<f64>) -> (Scale, &'static str) {
     sizes.sort_by(f64::total_cmp);
     let most = sizes.last().copied().unwrap_or(1.0).max(1.0);
     let middle = sizes.get(sizes.len() / 2).copied().unwrap_or(1.0);
-    if most < 1_000.0 || most < 20.0 * middle {
-        return Scale::roomy(-most, most, OFFSET.1, OFFSET.0, 0.04);
+    let bend = 10_f64.powf((2.0 * middle).max(10.0).log10().floor());
+    if most < 30.0 * bend {
+        return (Scale::roomy(-most, most, OFFSET.1, OFFSET.0, 0.04), "offset, ns");
     }
-    let bend = 10_f64.powf((2.0 * middle).max(10.0).log10().ceil());
-    Scale::bent(-most, most, OFFSET.1, OFFSET.0, bend)
+    (Scale::bent(-most, most, OFFSET.1, OFFSET.0, bend), "offset, ns, by powers of ten")
 }
 
 /// Many points: for each column what they span, and their mean.

@@ -1,4 +1,5 @@
-//! The second program: document 01 in plain Rust, told in other terms than the core tells it.
+//! The second program: the rules of docs/RULES.md in plain Rust, told in other terms than the core
+//! tells them.
 
 pub mod answer;
 pub mod answerer;

@@ -1,4 +1,4 @@
-//! The numbers of refusal, as document 01's table gives them.
+//! The numbers of refusal (rules 3.1 to 3.21).
 
 /// Each name stands for its number: `Refusal::Short as u8` is 1.
 #[derive(Clone, Copy, Debug, PartialEq, Eq)]
@@ -35,7 +35,7 @@ pub fn refuse(when: bool, number: Refusal) -> Result<(), Refusal> {
     }
 }
 
-/// The names as the papers and docs/BENCH.md write them, in the order of their numbers.
+/// The names as docs/BENCH.md has them, in the order of their numbers.
 pub const NAMES: [&str; 21] = [
     "SHORT",
     "VERSION",

@@ -2,7 +2,7 @@
 //! request, which moves when a request before it is left out.
 
 use super::calls;
-use crate::answerer::Answerer;
+use crate::answerer::{answers, Answerer};
 use crate::call::{parse, Call};
 use crate::text::hex;
 use std::collections::HashMap;
@@ -94,6 +94,12 @@ impl Calls {
         &self.0[at].line
     }
 
+    /// Whether the call at a place wipes, all before it being made.
+    pub fn wipes(&self, at: usize) -> bool {
+        let answers = answers(&self.first(at + 1).text());
+        answers.ends_with(b"wiped\n")
+    }
+
     /// All calls, with another line at a place.
     pub fn with(&self, at: usize, line: String) -> Calls {
         let mut calls = self.clone();
@@ -126,7 +132,6 @@ impl Calls {
 #[cfg(test)]
 mod tests {
     use super::*;
-    use crate::answerer::answers;
     use crate::lists::random;
 
     #[test]

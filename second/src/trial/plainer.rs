@@ -13,6 +13,10 @@ const TWO_STEP: i128 = 0x0200;
 /// The list with a plainer call at a place, none where there is nothing plainer to try.
 pub fn plainer(calls: &Calls, at: usize) -> Option<Calls> {
     match parse(calls.line(at))? {
+        // A wipe by any cause may have taken many calls; the operator's takes one.
+        call if call != Call::Reset && calls.wipes(at) => {
+            Some(calls.with(at, String::from("reset")))
+        }
         Call::Unit(given) => {
             let plain = Settings { minimum: 2, holdoff: 0, ..given.clone() };
             (plain != given).then(|| calls.with(at, settings::line(&plain)))
@@ -63,6 +67,17 @@ mod tests {
     use crate::answerer::answers;
     use crate::lists::desk::Desk;
     use crate::lists::hall::Hall;
+
+    #[test]
+    fn a_wipe_becomes_a_reset() {
+        let mut hall = Hall::with_master(Desk::default(), settings::exchange());
+        assert!(hall.measure(10_000, 200_000_000).ends_with("wiped"));
+        let calls = Calls::of(&hall.close().text());
+        let last = calls.len() - 1;
+        let plain = plainer(&calls, last).unwrap();
+        assert_eq!(plain.line(last), b"reset");
+        assert!(plainer(&plain, last).is_none() && plainer(&calls, last - 1).is_none());
+    }
 
     #[test]
     fn two_steps_become_one_and_settings_plain() {

@@ -45,7 +45,6 @@ pub fn shrink(
         shrinker.pass(size, size)?;
         size = size.div_ceil(2).min(size - 1);
     }
-    shrinker.make_plainer()?;
     while shrinker.round()? {}
     Ok(Shrunk {
         list: shrinker.calls.text(),
@@ -61,25 +60,26 @@ impl<F: FnMut(&[u8], usize, usize) -> Result<Option<Difference>, String>> Shrink
         Instant::now() >= self.limit
     }
 
-    /// Makes each call plainer where the list still differs then.
-    fn make_plainer(&mut self) -> Result<(), String> {
-        let mut at = 0;
+    /// Makes each call plainer where the list still differs then; whether any became so.
+    fn make_plainer(&mut self) -> Result<bool, String> {
+        let (mut at, mut any) = (0, false);
         while at < self.calls.len() && !self.late() {
             if let Some(plain) = plainer(&self.calls, at) {
-                self.take(plain)?;
+                any |= self.take(plain)?;
             }
             at += 1;
         }
-        Ok(())
+        Ok(any)
     }
 
-    /// Every small size at every place; whether anything went.
+    /// Plainer calls, then every small size left out at every place; whether anything changed.
     fn round(&mut self) -> Result<bool, String> {
         let before = self.calls.len();
+        let plainer = self.make_plainer()?;
         for size in (1..=NEAR).rev() {
             self.pass(size, 1)?;
         }
-        Ok(self.calls.len() < before && !self.late())
+        Ok((plainer || self.calls.len() < before) && !self.late())
     }
 
     /// Tries to leave out `size` calls at every place that is so many calls further.

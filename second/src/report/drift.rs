@@ -1,8 +1,8 @@
-//! The drift watch: y over the reference, and the last window before each wipe with its line.
+//! The drift watch over the reference: y of every sample, with every wipe marked.
 
 use super::draw::{columns, Svg};
-use super::scale::{count, label, unit_of, Scale};
-use super::story::{Life, Sample, Window};
+use super::scale::{unit_of, Scale};
+use super::story::{Life, Sample};
 
 const WIDTH: f64 = 1_000.0;
 const LEFT: f64 = 84.0;
@@ -75,84 +75,4 @@ fn marks(life: &Life, x: &Scale, svg: &mut Svg) {
     let at = |reference: i128| x.at(reference as f64 / SECOND);
     let marks = wipes.map(|(number, wipe)| (at(wipe.reference), number + 1, wipe.cause));
     svg.marks(&marks.collect::<Vec<_>>(), (TOP - 4.0, BOTTOM), WIDTH);
-}
-
-/// How many windows a unit's report has at most: those with the most samples.
-const PANELS: usize = 12;
-
-/// A picture of each window of two samples or more; and how many with samples are left out.
-pub fn windows(life: &Life) -> (Vec<String>, usize) {
-    let filled = life.windows.iter().filter(|window| !window.samples.is_empty()).count();
-    let mut kept: Vec<&Window> =
-        life.windows.iter().filter(|window| window.samples.len() > 1).collect();
-    kept.sort_by_key(|window| std::cmp::Reverse(window.samples.len()));
-    kept.truncate(PANELS);
-    kept.sort_by_key(|window| window.wipes);
-    (kept.iter().map(|window| panel(window)).collect(), filled - kept.len())
-}
-
-/// One window: the last W samples, x their place in it, and the line.
-fn panel(window: &Window) -> String {
-    let (left, right, top, bottom) = (74.0, 480.0, 44.0, 204.0);
-    let first = window.samples.len().saturating_sub(window.holds);
-    let held = &window.samples[first..];
-    let fit: Vec<&Sample> = held.iter().filter(|one| one.valid).collect();
-    let (y, unit, name) = window_scale(&fit, top, bottom);
-    let x = Scale::linear(0.0, held.len().saturating_sub(1).max(1) as f64, left, right - 8.0);
-    let mut svg = Svg::default();
-    svg.text("strong", left - 60.0, 14.0, &title(window));
-    svg.text("", left - 60.0, 31.0, &subtitle(window, held));
-    svg.left_axis(&y, (left, right), 5);
-    svg.upright(12.0, (top + bottom) / 2.0, &format!("y, {name}"));
-    let place = |number: usize, one: &Sample| {
-        (x.at(number as f64), y.at(one.y as f64 / unit).clamp(top - 4.0, bottom + 4.0))
-    };
-    for (number, one) in held.iter().enumerate() {
-        let (x, y) = place(number, one);
-        let small = if held.len() > 40 { 1.7 } else { 2.4 };
-        let (class, radius) = if one.valid { ("sample", small) } else { ("invalid", 3.2) };
-        svg.dot(class, x, y, radius);
-    }
-    if let Some(line) = &window.line {
-        let value = |x: f64| (line.level as f64 + line.slope as f64 * x) / line.over as f64 / unit;
-        let end = held.len() as f64 - 1.0;
-        svg.path("fit", &[(x.at(0.0), y.at(value(0.0))), (x.at(end), y.at(value(end)))]);
-    }
-    svg.line("axis", (left, bottom), (right, bottom));
-    svg.lower_axis(&x, bottom, 6, 1.0);
-    svg.text("middle", (left + right) / 2.0, 238.0, "x, place in the window");
-    svg.finish(490.0, 246.0, "a window and its line")
-}
-
-/// The scale of a window's valid samples; it need not have 0 in it.
-fn window_scale(fit: &[&Sample], top: f64, bottom: f64) -> (Scale, f64, &'static str) {
-    let ys = || fit.iter().map(|one| one.y as f64);
-    let low = ys().min_by(f64::total_cmp).unwrap_or(0.0);
-    let high = ys().max_by(f64::total_cmp).unwrap_or(0.0);
-    let (name, unit) = unit_of(high.max(-low));
-    (Scale::roomy(low / unit, high / unit, bottom, top, 0.05), unit, name)
-}
-
-fn title(window: &Window) -> String {
-    let from = match window.wipes {
-        0 => String::from("from the start"),
-        number => format!("from wipe {number}"),
-    };
-    match window.ended {
-        Some(cause) => format!("{from} to wipe {}: {cause}", window.wipes + 1),
-        None => format!("{from} to the end"),
-    }
-}
-
-fn subtitle(window: &Window, held: &[Sample]) -> String {
-    let taken = count(window.samples.len());
-    let valid = held.iter().filter(|one| one.valid).count();
-    let counts = format!("{taken} taken, {} in the window, {valid} valid", held.len());
-    match &window.line {
-        Some(line) => {
-            let slope = line.slope as f64 / line.over as f64;
-            format!("{counts}; slope {} ns/s", label(slope, 0.1))
-        }
-        None => format!("{counts}; no line is due"),
-    }
 }

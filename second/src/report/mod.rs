@@ -6,5 +6,6 @@ mod drift;
 mod page;
 mod scale;
 mod story;
+mod windows;
 
 pub use page::page;

@@ -2,9 +2,10 @@
 
 use super::course::course;
 use super::draw::escaped;
-use super::drift::{overview, windows};
+use super::drift::overview;
 use super::scale::count;
 use super::story::{tell, Life, Story};
+use super::windows::windows;
 use crate::refusal::NAMES;
 use std::collections::BTreeMap;
 
@@ -62,7 +63,7 @@ fn section(number: usize, life: &Life) -> String {
     if !panels.is_empty() {
         text += "<h3>Windows and their lines</h3>\n<div class=\"panels\">\n";
         panels.iter().for_each(|panel| text += panel);
-        text += "</div>\n";
+        text += &format!("</div>\n<p class=\"caption\">{WINDOWS}</p>\n");
     }
     if left_out > 0 {
         text += &format!("<p>{} with fewer samples not drawn.</p>\n", plural(left_out, "window"));
@@ -75,9 +76,14 @@ const COURSE: &str = "<b class=\"offset\">&#9679;</b> offset of each accepted me
     <b class=\"wipe\">&#9478;</b> wipe, numbered as in the table. Where measurements are many, a column shows \
     what they span and their mean. Where a few offsets stand far out, the scale has a step for each power of ten.";
 
-const DRIFT: &str = "<b class=\"sample\">&#9679;</b> valid sample <b class=\"invalid\">&#9675;</b> invalid sample \
-    <b class=\"fit\">&#9473;</b> drift line <b class=\"wipe\">&#9478;</b> wipe. y is clock less reference, \
+const DRIFT: &str =
+    "<b class=\"sample\">&#9679;</b> valid sample <b class=\"invalid\">&#9675;</b> invalid sample \
+    <b class=\"wipe\">&#9478;</b> wipe. y is clock less reference, \
     counted from the first sample since the wipe. An invalid sample far out stands at the edge.";
+
+const WINDOWS: &str =
+    "The samples that the window holds before the wipe, with the drift line; below, \
+    the samples less the line.";
 
 fn figure(picture: &str, caption: &str) -> String {
     format!("<figure>\n{picture}<figcaption>{caption}</figcaption>\n</figure>\n")

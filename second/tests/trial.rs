@@ -123,6 +123,23 @@ fn a_build_that_never_stops_answering() {
     assert!(told.contains("difference: too many answers"), "{told}");
 }
 
+/// The program compared with may take long to start for the first time: ./bench builds itself then.
+#[test]
+fn a_reference_that_has_to_be_built() {
+    let built = file("built");
+    let _ = std::fs::remove_file(&built);
+    let script = file("reference");
+    let built = built.display();
+    let text = format!("[ -f {built} ] || {{ sleep 2; : >{built}; }}\nexec '{SECOND}' answer\n");
+    std::fs::write(&script, text).unwrap();
+    let against = format!("against=sh {}", script.display());
+    let output = Command::new(SECOND)
+        .args(["try", "lists=1", "calls=50", "silence=1", &against, "--", SECOND, "answer"])
+        .output()
+        .unwrap();
+    assert_eq!(output.status.code(), Some(0), "{}", String::from_utf8_lossy(&output.stderr));
+}
+
 #[test]
 fn what_can_not_be_tried() {
     let run = |words: &[&str]| Command::new(SECOND).arg("try").args(words).output().unwrap();

@@ -82,6 +82,7 @@ pub fn run(plan: &Plan) -> Result<End, String> {
         reference: Player::new(&plan.against, silence),
         command: Player::new(&plan.command, silence),
     };
+    pair.reference.make_ready()?;
     let mut progress = Progress::default();
     let (begun, mut agreed) = (Instant::now(), 0);
     for number in 0..plan.lists {

@@ -46,11 +46,28 @@ impl Player {
         self.words.join(" ")
     }
 
+    fn command(&self) -> Command {
+        let (program, words) = self.words.split_first().expect("a command has a word");
+        let mut command = Command::new(program);
+        command.args(words);
+        command
+    }
+
+    /// Runs the command on nothing, for as long as it takes: it may have to be built first, and says
+    /// so on standard error.
+    pub fn make_ready(&self) -> Result<(), String> {
+        let status = self.command().stdin(Stdio::null()).stdout(Stdio::null()).status();
+        match status {
+            Ok(status) if status.success() => Ok(()),
+            Ok(status) => Err(format!("{}, compared against, ended: {status}", self.name())),
+            Err(error) => Err(format!("{}: {error}", self.name())),
+        }
+    }
+
     /// Plays a list; `go_on` is told each answer and says whether the next one is wanted.
     pub fn play(&self, list: &[u8], go_on: impl FnMut(&[u8]) -> bool) -> io::Result<Ending> {
-        let (program, words) = self.words.split_first().expect("a command has a word");
-        let mut child = Command::new(program)
-            .args(words)
+        let mut child = self
+            .command()
             .stdin(Stdio::piped())
             .stdout(Stdio::piped())
             .stderr(Stdio::null())

@@ -70,7 +70,7 @@ fn caught(name: &str) -> (String, String) {
     let program = build(name);
     let to = program.with_extension("txt");
     let output = Command::new(SECOND)
-        .arg("try")
+        .args(["try", "seconds=300"])
         .arg(format!("against={SECOND} answer"))
         .arg(format!("to={}", to.display()))
         .arg("--")

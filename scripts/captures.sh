@@ -1,10 +1,10 @@
 #!/usr/bin/env bash
 # Compares what the bench reads of captured frames with what tshark reads of the same frames, field by field.
 # Usage: scripts/captures.sh FOLDER   (FOLDER has NAME.pcap and, of the same frames, NAME.hex: a line `time octets` for each)
-# Needs tshark and the built bench (rt check bench). Exit status 1 where a field differs.
+# Needs tshark and the kit (./bench runs the bench). Exit status 1 where a field differs.
 set -euo pipefail
 [ $# = 1 ] || { sed -n '2,4s/^# //p' "$0" >&2; exit 2; }
-bench=$(dirname "$0")/../target/bin/bench
+bench=$(dirname "$0")/../bench
 work=$(mktemp -d)
 trap 'rm -rf "$work"' EXIT
 

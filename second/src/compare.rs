@@ -95,7 +95,7 @@ pub fn difference(list: &[u8], answers: &[u8]) -> Result<usize, Difference> {
 
 /// Lines without their newlines; what stands after the last newline is a line where it is not
 /// empty.
-fn lines(text: &[u8]) -> impl Iterator<Item = &[u8]> {
+pub fn lines(text: &[u8]) -> impl Iterator<Item = &[u8]> {
     text.split_inclusive(|octet| *octet == b'\n')
         .map(|line| line.strip_suffix(b"\n").unwrap_or(line))
 }
@@ -114,7 +114,8 @@ fn report(found: &Difference) -> String {
     format!("first difference at line {line}\n  call   {call}\n  bench  {bench}\n  second {second}")
 }
 
-fn short(text: &str) -> String {
+/// A text cut to a readable length.
+pub fn short(text: &str) -> String {
     let length = text.chars().count();
     if length <= 600 {
         return text.to_string();

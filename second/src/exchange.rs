@@ -43,7 +43,7 @@ pub enum Finished {
 
 #[derive(Clone, Debug, Default, PartialEq)]
 pub struct Exchange {
-    /// Since the last finished measurement: "it gives t4 and spends both halves".
+    /// Since the last finished measurement, which emptied both halves (rule 7.7).
     events: Vec<Event>,
     /// Every t2 and t3 taken since the wipe.
     stamps: Vec<i128>,
@@ -51,24 +51,24 @@ pub struct Exchange {
     finished: Vec<Finished>,
 }
 
-/// "Each correction is first cut down to whole ns (floor)."
+/// A correction in whole ns, rounded down (rule 7.10).
 pub fn cut(correction: i128) -> i128 {
     nearest::floor(correction, 65_536)
 }
 
 impl Exchange {
-    /// "A t2 or t3 below the last local stamp" is BACK.
+    /// BACK: the local stamp lies below the one taken last (rule 7.9).
     pub fn is_back(&self, stamp: i128) -> bool {
         self.stamps.last().is_some_and(|last| stamp < *last)
     }
 
-    /// A Sync with stamp t2 replaces the one held. `t1` is given where it is one-step.
+    /// A Sync takes the place of the one before (rule 7.2). `t1` is given where it is one-step.
     pub fn sync(&mut self, sequence: i128, t1: Option<i128>, t2: i128, correction: i128) {
         self.stamps.push(t2);
         self.events.push(Event::Sync { sequence, t1, t2, correction: cut(correction) });
     }
 
-    /// "Two-step: a Follow_Up of its sequenceId gives t1, once."
+    /// t1 for the Sync that awaits it (rule 7.4).
     pub fn follow_up(&mut self, sequence: i128, t1: i128, correction: i128) -> Result<(), Refusal> {
         let waiting = match self.sync_half() {
             [Event::Sync { sequence, t1: None, .. }, behind @ ..] => {
@@ -83,12 +83,12 @@ impl Exchange {
         Ok(())
     }
 
-    /// "A request is pending from its writing; a newer request replaces it."
+    /// A request, pending in place of any before (rule 7.5).
     pub fn request(&mut self, sequence: i128) {
         self.events.push(Event::Request { sequence });
     }
 
-    /// Refuses a t3 that has no request to belong to: "t3 is given once for its sequenceId".
+    /// Refuses a t3 that has no request to belong to, or comes a second time (rule 7.6).
     pub fn check_sent(&self, sequence: i128) -> Result<(), Refusal> {
         let waiting = self.pending() == Some(sequence) && self.t3().is_none();
         refuse(!waiting, Refusal::Unmatched)
@@ -108,7 +108,7 @@ impl Exchange {
         }
     }
 
-    /// "Forward = t2 - t1 less those of Sync and Follow_Up", where t1 and t2 are known.
+    /// Forward, where t1 and t2 are known (rule 7.11).
     fn forward(&self) -> Option<i128> {
         let (first, behind) = self.sync_half().split_first()?;
         let Event::Sync { t1, t2, correction, .. } = first else {
@@ -143,8 +143,8 @@ impl Exchange {
         })
     }
 
-    /// "A Delay_Resp needs t1, t2, t3, the pending sequenceId" (the requester is asked before);
-    /// it finishes the measurement.
+    /// A Delay_Resp finishes the measurement if nothing is missing (rule 7.7); who asked is looked
+    /// at before.
     pub fn response(
         &mut self,
         sequence: i128,
@@ -162,7 +162,7 @@ impl Exchange {
         Ok(finished)
     }
 
-    /// "Only the first that holds, in this order, counts."
+    /// The four verdicts one after the other (rule 7.18), else accepted (rule 7.21).
     fn judge(&self, forward: i128, back: i128, now: i128) -> Finished {
         let sum = forward + back;
         if sum < 0 {
@@ -191,8 +191,7 @@ impl Exchange {
         })
     }
 
-    /// "If the delay is over 1,000 from the delay last used, the median of the last five accepted
-    /// delays, this one included, is used, else the delay."
+    /// The delay used: the measured one, or the median where it strays (rule 7.21).
     fn filter(&self, delay: i128) -> i128 {
         match self.accepted().next() {
             Some((_, used)) if (delay - used).abs() > 1_000 => {
@@ -218,7 +217,7 @@ impl Exchange {
     }
 }
 
-/// The middle one in order, "lower middle for an even count".
+/// The middle one by size, the lower of two (rule 7.22).
 fn median(mut delays: Vec<i128>) -> i128 {
     delays.sort_unstable();
     delays[(delays.len() - 1) / 2]

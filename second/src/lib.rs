@@ -1,4 +1,5 @@
-//! The second program: document 01 in plain Rust, told in other terms than the core tells it.
+//! The second program: the rules of docs/RULES.md in plain Rust, told in other terms than the core
+//! tells them.
 
 pub mod answer;
 pub mod answerer;
@@ -11,8 +12,10 @@ pub mod masters;
 pub mod message;
 pub mod nearest;
 pub mod refusal;
+pub mod report;
 pub mod servo;
 pub mod settings;
 pub mod text;
+pub mod trial;
 pub mod unit;
 pub mod watch;

@@ -25,19 +25,19 @@ impl Place {
         Some(now - arrival.at)
     }
 
-    /// "It is live while now is at most 4 intervals past the newer arrival."
+    /// Live: the newer arrival is not older than 4 intervals (rule 5.4).
     fn live(&self, now: i128, interval: i128) -> bool {
         self.ago(0, now).is_some_and(|ago| ago <= 4 * interval)
     }
 
-    /// "Qualified with two arrivals, the older at most 4 intervals ago, the newer at most 3."
+    /// Qualified: two arrivals that are recent enough (rule 5.8).
     fn qualified(&self, now: i128, interval: i128) -> bool {
         let newer = self.ago(0, now).is_some_and(|ago| ago <= 3 * interval);
         let older = self.ago(1, now).is_some_and(|ago| ago <= 4 * interval);
         newer && older
     }
 
-    /// Taken by this sender and live: "a record not live counts as absent".
+    /// Taken by this sender and live; one that is not live is as good as none (rule 5.5).
     fn stands_for(&self, sender: Identity, now: i128, interval: i128) -> bool {
         let same = self.newest().is_some_and(|last| last.sender() == sender);
         same && self.live(now, interval)
@@ -73,8 +73,7 @@ impl Table {
         Ok(())
     }
 
-    /// "The choice goes through qualified records in table order and keeps the one held unless
-    /// the next is better."
+    /// The choice among the qualified, place by place (rule 5.11).
     pub fn choose(&self, now: i128) -> Option<Identity> {
         let chosen = self
             .places
@@ -121,8 +120,7 @@ mod tests {
         table.choose(1).unwrap().clock()
     }
 
-    /// "A (grandmaster X, priority1 10, steps 3), B (X, 200, steps 1), C (Y, 100): order A, B, C
-    /// chooses C; A, C, B chooses B."
+    /// The circle of rule 5.15.
     #[test]
     fn the_choice_is_no_maximum() {
         let (x, y) = (50, 60);

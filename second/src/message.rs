@@ -49,7 +49,7 @@ const fn four(name: &'static str, first: usize, low: bool) -> Field {
     }
 }
 
-/// Document 01, "Message layout": header and timestamp, in the order of the bench's words.
+/// Header and timestamp (rules 2.2 and 2.4), in the order of the bench's words.
 static COMMON: [Field; 15] = [
     four("kind", 0, true),
     four("sdo", 0, false),
@@ -87,7 +87,7 @@ static ANNOUNCED: [Field; 10] = [
     octets("source", 63, 1),
 ];
 
-/// What document 01's table says of a kind: fixed length and the fields after the timestamp.
+/// Fixed length of a kind and its fields after the timestamp (rules 2.5 to 2.7).
 fn kind_row(kind: i128) -> Option<(usize, &'static [Field])> {
     match kind {
         SYNC | DELAY_REQ | FOLLOW_UP => Some((44, &[])),
@@ -250,7 +250,7 @@ impl Identity {
     }
 }
 
-/// Reads a message. "Order in reading: 1 (34), 2, 3, 4, 1, 5, 6."
+/// Reads a message, or refuses it by the order of rule 3.52.
 pub fn read(octets: &[u8]) -> Result<Message, Refusal> {
     refuse(octets.len() < HEADER, Refusal::Short)?;
     refuse(VERSION.cut(octets) != 2, Refusal::Version)?;
@@ -268,7 +268,7 @@ pub fn read(octets: &[u8]) -> Result<Message, Refusal> {
     Ok(message)
 }
 
-/// Writes a message into the lent part. "In writing: 5, 6, 4, 7."
+/// Writes a message into the lent part, or refuses it by the order of rule 3.53.
 pub fn write(message: &Message, lent: &mut [u8]) -> Result<(), Refusal> {
     let fits = |(field, value): (&Field, i128)| field.holds().contains(&value);
     let nanos = message.get("nanos") >= 1_000_000_000;
@@ -281,7 +281,7 @@ pub fn write(message: &Message, lent: &mut [u8]) -> Result<(), Refusal> {
     Ok(())
 }
 
-/// "TLVs: type 2 octets, length 2, value; length even, the last ending at messageLength."
+/// Whether octets are a row of whole TLVs (rule 2.8).
 fn whole_tlvs(mut rest: &[u8]) -> bool {
     while let [_, _, high, low, behind @ ..] = rest {
         let length = usize::from(*high) * 256 + usize::from(*low);

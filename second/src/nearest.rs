@@ -1,6 +1,6 @@
 //! Rounding by search and comparison: whole numbers and the nearest f64.
 
-/// The largest whole number that, `step` times, is not above `value`: document 01's cut (floor).
+/// The largest whole number that, `step` times, is not above `value` (rule 1.6).
 pub fn floor(value: i128, step: i128) -> i128 {
     let near = value / step;
     (near - 1..=near + 1)
@@ -17,8 +17,8 @@ pub fn whole(value: i128, step: i128) -> i128 {
         .expect("three candidates")
 }
 
-/// The bits of the f64 nearest to `value / step`, `step` above 0. An f64 is read as a whole number
-/// times a power of two, and two are compared by cross-multiplying. Zero is +0.
+/// The bits of the f64 nearest to `value / step`, `step` above 0 (rule 9.17). Every f64 is a fraction
+/// of whole numbers, and distances of fractions are compared without rounding. Zero is +0.
 pub fn double(value: i128, step: i128) -> u64 {
     if value == 0 {
         return 0;

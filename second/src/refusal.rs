@@ -1,4 +1,4 @@
-//! The numbers of refusal, as document 01's table gives them.
+//! The numbers of refusal (rules 3.1 to 3.21).
 
 /// Each name stands for its number: `Refusal::Short as u8` is 1.
 #[derive(Clone, Copy, Debug, PartialEq, Eq)]
@@ -34,3 +34,28 @@ pub fn refuse(when: bool, number: Refusal) -> Result<(), Refusal> {
         Ok(())
     }
 }
+
+/// The names as docs/BENCH.md has them, in the order of their numbers.
+pub const NAMES: [&str; 21] = [
+    "SHORT",
+    "VERSION",
+    "KIND",
+    "LENGTH",
+    "FIELD",
+    "SUFFIX",
+    "ROOM",
+    "SETTINGS",
+    "NOW",
+    "DOMAIN",
+    "OWN",
+    "ALTERNATE",
+    "STEPS",
+    "REPEAT",
+    "FULL",
+    "NOT_MASTER",
+    "UNMATCHED",
+    "FAULTY",
+    "CORRECTION",
+    "TICK",
+    "NOT_READY",
+];

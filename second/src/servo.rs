@@ -28,7 +28,7 @@ impl Servo {
         let output = within(kp * offset * 128 + self.integral);
         self.output = nearest::whole(output, UNITS);
         self.offsets.push(offset);
-        // "After that output the gains are halved, I becomes 0 and the ten are emptied."
+        // With the output as it is: rule 8.7.
         if self.swings() {
             self.halvings += 1;
             self.integral = 0;
@@ -36,7 +36,7 @@ impl Servo {
         }
     }
 
-    /// A set gain after the halvings, each "floor, not under 1".
+    /// A set gain after the halvings, each rounded down and never to less than 1.
     fn gain(&self, set: i128) -> i128 {
         (0..self.halvings).fold(set, |gain, _| (gain / 2).max(1))
     }
@@ -47,14 +47,13 @@ impl Servo {
         Some(&self.offsets[first..])
     }
 
-    /// "If there are ten and they show six or more neighbours of strictly opposite sign."
+    /// Whether the ten swing (rule 8.6).
     fn swings(&self) -> bool {
         let opposite = |two: &&[i128]| two[0].signum() * two[1].signum() == -1;
         self.ten().is_some_and(|ten| ten.windows(2).filter(opposite).count() >= 6)
     }
 
-    /// TRACKING: "ten offsets are held, none beyond 99 either way, and ten times their sum of
-    /// squares less the square of their sum is under 5,000".
+    /// TRACKING (rule 6.3).
     pub fn tracks(&self) -> bool {
         self.ten().is_some_and(|ten| {
             let sum: i128 = ten.iter().sum();

@@ -22,7 +22,7 @@ pub struct Settings {
 }
 
 impl Settings {
-    /// Refusal 8: "a setting outside its range".
+    /// Refusal 8, by the ranges of rules 4.1 to 4.13.
     pub fn check(&self) -> Result<(), Refusal> {
         let ranges = [
             (self.announce, 0..=4),

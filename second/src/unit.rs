@@ -13,7 +13,7 @@ use crate::watch::{self, Pulse, Watch};
 /// Octets of Ethernet header before a message.
 const ETHERNET: usize = 14;
 
-/// Flags as octets 6 and 7 give them: "in octet 6, bit 0 is alternate master and bit 1 two-step".
+/// The two flags that are looked at, both in octet 6, the upper one of two (rule 2.3).
 const ALTERNATE: i128 = 0x0100;
 const TWO_STEP: i128 = 0x0200;
 
@@ -53,8 +53,7 @@ fn local(stamp: Stamp) -> Result<i128, Refusal> {
 }
 
 impl Unit {
-    /// "A fresh unit is as after a wipe, with an empty table, no master, now 0, wipe count 0,
-    /// output 0 and sequenceId 0 for its first request."
+    /// Like a wiped one, with nothing in its table and every count at 0 (rule 10.12).
     pub fn fresh(settings: Settings) -> Result<Unit, Refusal> {
         settings.check()?;
         Ok(Unit {
@@ -89,7 +88,7 @@ impl Unit {
         }
     }
 
-    /// "Announce: 9 to 15 in that order."
+    /// An Announce: 9 to 15, one after the other (rule 3.56).
     fn announce(&mut self, now: i128, message: Message) -> Answered {
         refuse(now < self.now, Refusal::Now)?;
         refuse(message.get("domain") != self.settings.domain, Refusal::Domain)?;
@@ -212,8 +211,7 @@ impl Unit {
         Ok(Answer::Asked { sequence, frame })
     }
 
-    /// "Zeros except version 2, length, domain, own port identity, its sequenceId, control 1, log
-    /// interval 0x7F."
+    /// The own request; all that is not said here is 0 (rule 2.13).
     fn delay_req(&self, sequence: i128) -> Message {
         Message::blank(DELAY_REQ)
             .with("domain", self.settings.domain)
@@ -240,7 +238,7 @@ impl Unit {
         Ok(Answer::Stamped)
     }
 
-    /// The operator's reset. "Only a reset ends FAULTY."
+    /// The operator's reset, which alone ends FAULTY (rule 10.10).
     pub fn reset(&mut self) -> Answer {
         self.wipe();
         self.faulty = false;
@@ -327,7 +325,7 @@ mod tests {
         assert_eq!(wipes(&unit), 0);
     }
 
-    /// "Up by one at each request, 65,535 to 0."
+    /// Rule 2.14.
     #[test]
     fn the_own_sequence_id_begins_again_after_65_535() {
         let mut unit = Unit::fresh(bench()).unwrap();

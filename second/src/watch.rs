@@ -54,7 +54,7 @@ impl Watch {
         pulse
     }
 
-    /// The checks against the previous sample, in document 01's order.
+    /// The checks against the sample before, in the order of rule 9.3.
     fn judge(&self, reference: i128, y: i128, settings: &Settings) -> Pulse {
         let Some(previous) = self.samples.last() else {
             return Pulse::Valid;
@@ -74,16 +74,15 @@ impl Watch {
         }
     }
 
-    /// Position and y of the valid samples among the last W taken. "Position x is the place in
-    /// the window, oldest 0"; invalid ones keep their places.
+    /// Position and y of the valid samples in the window; invalid ones keep their places (rules
+    /// 9.11 and 9.12).
     fn valid(&self, window: i128) -> Vec<(i128, i128)> {
         let first = self.samples.len().saturating_sub(window as usize);
         let placed = (0..).zip(&self.samples[first..]);
         placed.filter(|(_, sample)| sample.valid).map(|(x, sample)| (x, sample.y)).collect()
     }
 
-    /// "A line is due when samples taken since the wipe reach holdoff and valid ones in the
-    /// window the minimum."
+    /// The line, where it is due (rule 9.13).
     pub fn line(&self, settings: &Settings) -> Result<Line, Refusal> {
         let points = self.valid(settings.window);
         let taken = self.samples.len() as i128;
@@ -115,7 +114,7 @@ fn fit(points: &[(i128, i128)]) -> Line {
     }
 }
 
-/// Refusal 20: "watch stamp outside 0 to 2^62 - 1".
+/// Refusal 20 (rule 3.20).
 pub fn check_stamps(reference: i128, clock: i128) -> Result<(), Refusal> {
     let range = 0..1_i128 << 62;
     let inside = range.contains(&reference) && range.contains(&clock);

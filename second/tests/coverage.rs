@@ -192,7 +192,7 @@ fn random_lists_reach_deep_states() {
     assert_eq!(missing(&all), Vec::<String>::new());
 }
 
-/// "A refusal returns its number only, and state and frame keep their contents."
+/// A refusal leaves all as it was (rule 3.51).
 #[test]
 fn a_refused_call_changes_nothing() {
     let mut every = vec![random::list(1, 3_000)];
@@ -213,7 +213,7 @@ fn a_refused_call_changes_nothing() {
     }
 }
 
-/// "The output never passes the set limit": every output shown against the last settings.
+/// Every output shown against the last settings' limit (rule 8.8).
 #[test]
 fn outputs_stay_within_the_limit() {
     let mut limit = 0;

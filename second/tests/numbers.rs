@@ -1,4 +1,4 @@
-//! Document 01's "Numbers to meet", P1 to P12, through the whole unit.
+//! The numbers to meet, P1 to P12 (section 11 of the rules), through the whole unit.
 
 use second::lists::desk::Desk;
 use second::lists::hall::{Hall, SECOND};

@@ -1,4 +1,4 @@
-//! States that take many calls, each answer derived from document 01 beside it.
+//! States that take many calls, each answer derived from the rules beside it.
 
 use second::lists::desk::Desk;
 use second::lists::hall::{announce, Hall, Leg, Trip, MASTER, ONE_STEP, SECOND, TWO_STEP};
@@ -16,8 +16,8 @@ fn value(answer: &str, name: &str) -> String {
     words.find_map(|word| word.strip_prefix(&start)).unwrap_or_default().to_string()
 }
 
-/// "The third in a row makes the unit faulty", exchange calls are 18 then, "only a reset ends
-/// FAULTY", and the third HUGE itself wipes nothing.
+/// The third HUGE makes faulty and wipes nothing (rule 7.16); the exchange is refused with 18 then,
+/// and a reset ends it (rule 10.10).
 #[test]
 fn faulty_and_back() {
     let mut hall = hall();
@@ -61,7 +61,7 @@ fn a_row_is_broken_by_every_other_ending() {
     assert!(hall.show().starts_with("port=uncalibrated "));
 }
 
-/// "Delay 1,000,000 or more from the last accepted: PATH; the third in a row wipes."
+/// PATH, and its third (rule 7.17).
 #[test]
 fn a_third_path_wipes() {
     let mut hall = hall();
@@ -77,7 +77,7 @@ fn a_third_path_wipes() {
     assert!(hall.measure(2_009_999, 0).starts_with("measured delay=2009999 used=2009999 "));
 }
 
-/// "HOLDOVER when now is over 10,000 ms past the last accepted measurement since the wipe."
+/// HOLDOVER begins a millisecond after ten seconds (rule 6.2).
 #[test]
 fn holdover_begins_after_ten_seconds() {
     let mut hall = hall();

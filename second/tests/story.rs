@@ -1,6 +1,9 @@
-//! Lists written out by hand with the answers that document 01 gives them.
+//! Lists written out by hand with the answers that the rules give them.
 //!
 //! A line `> CALL` is followed by `< ANSWER`; any other line is a comment and derives it.
+
+// A story is one text, however long.
+#![allow(clippy::too_many_lines)]
 
 use second::answerer::Answerer;
 
@@ -123,7 +126,7 @@ fn a_recorded_exchange() {
     );
 }
 
-/// Refusals come in document 01's order: 1 to 6 of reading, the 3 of a Delay_Req, 8, then the rest.
+/// Refusals come in the order of rule 3.55: 1 to 6 of reading, the 3 of a Delay_Req, 8, then the rest.
 #[test]
 fn a_table_not_of_five() {
     follow(

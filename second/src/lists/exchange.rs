@@ -22,7 +22,7 @@ pub fn fresh(desk: Desk, kp: i128, ki: i128) -> Hall {
     Hall::with_master(desk, settings)
 }
 
-/// P1 to P10 of document 01.
+/// P1 to P10, rules 11.1 to 11.10.
 fn numbers(mut desk: Desk) -> Desk {
     desk.note("exchange: P1 to P10");
     let runs: [&[(i128, i128)]; 9] = [

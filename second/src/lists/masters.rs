@@ -34,7 +34,7 @@ fn with_interval(exponent: i128) -> Settings {
     Settings { announce: exponent, ..bench() }
 }
 
-/// Document 01's A, B and C, which stand in the table in the order of their first Announce.
+/// A, B and C of rule 5.15, which stand in the table in the order of their first Announce.
 fn abc() -> [Message; 3] {
     let made = |clock: i128, grandmaster: i128, p1: i128, steps: i128| {
         announce(clock, 1).with("grandmaster", grandmaster).with("p1", p1).with("steps", steps)

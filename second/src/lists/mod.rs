@@ -6,6 +6,7 @@ pub mod desk;
 pub mod exchange;
 pub mod frames;
 pub mod hall;
+pub mod hour;
 pub mod masters;
 pub mod partners;
 pub mod random;
@@ -28,6 +29,7 @@ pub fn named(name: &str) -> Option<Vec<u8>> {
         "watch" => Some(watch::list()),
         "card" => Some(card::list()),
         "sequence" => Some(card::sequence()),
+        "hour" => Some(hour::list(3_600)),
         "whole" => Some(whole()),
         "stored" => Some(stored()),
         _ => None,

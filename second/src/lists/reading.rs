@@ -96,7 +96,7 @@ fn tlvs(desk: &mut Desk) {
     }
 }
 
-/// "A padded Sync has two octets more."
+/// Octets behind messageLength are not looked at (rule 2.9).
 fn padding(desk: &mut Desk) {
     desk.note("reading: padding is ignored");
     for kind in KINDS {

@@ -2,7 +2,7 @@
 
 use crate::settings::Settings;
 
-/// The bench values of document 01, with what it leaves open.
+/// The bench values of rule 4.14, with what it leaves open.
 pub fn bench() -> Settings {
     Settings {
         domain: 0,

@@ -56,7 +56,7 @@ impl Pulses {
     }
 }
 
-/// P11 and P12 of document 01.
+/// P11 and P12, rules 11.11 and 11.12.
 fn numbers(desk: Desk) -> Desk {
     let mut pulses = Pulses::new(desk, settings::watch());
     pulses.hall.note("watch: P11 and P12");

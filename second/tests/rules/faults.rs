@@ -164,6 +164,21 @@ fn of_list(page: &Page, repository: Repository) -> Vec<String> {
     faults
 }
 
+/// A place or a file that is named anywhere else is there.
+fn of_others(page: &Page, repository: Repository) -> Vec<String> {
+    let mut faults = vec![];
+    for (line, word) in &page.quoted {
+        let file = places::path(word).filter(|_| !word.contains(':'));
+        let fault = match file {
+            Some(path) => repository(&path).is_none().then(|| format!("there is no {path}")),
+            None if places::folder(word).is_empty() => None,
+            None => places::fault(word, repository),
+        };
+        faults.extend(fault.map(|fault| format!("line {line}: {fault}")));
+    }
+    faults
+}
+
 pub fn of(page: &Page, repository: Repository) -> Vec<String> {
     let mut faults: Vec<String> = vec![];
     faults.extend(page.rules.iter().flat_map(|rule| of_rule(rule, repository)));
@@ -171,5 +186,6 @@ pub fn of(page: &Page, repository: Repository) -> Vec<String> {
     faults.extend(of_order(page));
     faults.extend(of_counts(page));
     faults.extend(of_list(page, repository));
+    faults.extend(of_others(page, repository));
     faults
 }

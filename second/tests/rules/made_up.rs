@@ -12,6 +12,7 @@ fn small() -> String {
         "## What to read",
         "some 3 lines",
         "| Live | `a/specs/A` |",
+        "See `rule 1.1`, `a/proofs/B:at-most` and `a/specs/A`.",
         "There are 3 rules. 1 of them have the contract as their theorem and 1 none; \
          for 1 only a near wrong answer was tried and for 1 none.",
         "## Contents",
@@ -88,15 +89,21 @@ fn a_place_that_is_not_there_is_refused() {
         "there is no crates/a/must-fail/later.edit",
     );
     refused("`a/must-fail/late`", "`a/must-fail/late:Record`", "an edit has no name in it");
-    refused("B:at-most", "B:at", "crates/a/proofs/B.antt does not have it");
+    refused(
+        "Theorem: `a/proofs/B:at-most",
+        "Theorem: `a/proofs/B:at",
+        "crates/a/proofs/B.antt does not have it",
+    );
     refused("a/src/a:WIDE", "a/source/a:WIDE", "is no place");
     refused("Book: `a/specs/A:live`", "Book: `a/specs/A:dead`", "does not have it");
+    refused("See `rule 1.1`, `a/proofs/B:at", "See `a/proofs/B:as", "line 5: `a/proofs/B:as-most`");
+    refused("and `a/specs/A`.", "and `a/specs/C`.", "line 5: there is no crates/a/specs/C.antt");
 }
 
 #[test]
 fn a_rule_without_its_places_is_refused() {
-    refused(PLACES, "", "line 10: rule 1.1 has no places");
-    refused(" · Refused: `a/must-fail/late`", "", "line 11: rule 1.1 has no Refused");
+    refused(PLACES, "", "line 11: rule 1.1 has no places");
+    refused(" · Refused: `a/must-fail/late`", "", "line 12: rule 1.1 has no Refused");
     refused("Definition: `a/specs/A:live` · ", "", "rule 1.1 has no Definition");
     refused("Refused: `a/must-fail/late`", "Refused: none", "has no Refused");
     refused("Refused: `a/must-fail/late`", "Refused: `a/specs/A:live`", "no place of Refused");

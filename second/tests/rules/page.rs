@@ -24,6 +24,8 @@ pub struct Page {
     pub rules: Vec<Rule>,
     pub contents: Vec<String>,
     pub list: Vec<(usize, String)>,
+    /// The quoted words of all other lines.
+    pub quoted: Vec<(usize, String)>,
     pub text: String,
 }
 
@@ -78,6 +80,8 @@ impl Page {
             self.contents.extend(entry(line));
         } else if heading == "What to read" && line.starts_with('|') {
             self.list.extend(quoted(line).into_iter().map(|file| (at, file.to_string())));
+        } else {
+            self.quoted.extend(quoted(line).into_iter().map(|word| (at, word.to_string())));
         }
     }
 }

@@ -13,8 +13,8 @@
  *     steer(servo.output);                                                   // ppb, positive slows the clock; a wipe has made it 0
  *
  * What a caller owes: no pointer to a struct is null, and none is misaligned; octets, a suffix, a part, a frame or a table of length 0
- * may have any pointer; nothing that is lent to one call overlaps; the same unit, servo, watch and table come back as the last call
- * left them; a bool is 0 or 1. Nothing else: no value of any other field is a mistake, it is answered or refused.
+ * may have any pointer; nothing that is lent to one call overlaps; unit, servo, watch and table are lent as they were found after the
+ * call before; a bool is 0 or 1. Nothing else: no value of any other field is a mistake, it is answered or refused.
  *
  * A refusal gives its number only: unit, servo, table, watch, part and frame are then as before. */
 #ifndef SINEZHAB_H
@@ -25,29 +25,29 @@
 #include <stddef.h>
 #include <stdint.h>
 
-/* The numbers of refusal, document 01. 0 stands for none. */
+/* The numbers of refusal (docs/RULES.md, section 3). 0 means none. */
 enum sinezhab_refusal {
-    SINEZHAB_REFUSAL_SHORT = 1,  /* under 34 octets, or under messageLength */
+    SINEZHAB_REFUSAL_SHORT = 1,  /* too few octets for a header, or for messageLength */
     SINEZHAB_REFUSAL_VERSION,    /* version is not 2 */
-    SINEZHAB_REFUSAL_KIND,       /* kind not in the table, a Delay_Req handed to the unit, or a call code that the function does not take */
-    SINEZHAB_REFUSAL_LENGTH,     /* messageLength under the fixed length; in writing, over 65,535 */
+    SINEZHAB_REFUSAL_KIND,       /* none of the five kinds, a Delay_Req handed to the unit, or a call code that the function does not take */
+    SINEZHAB_REFUSAL_LENGTH,     /* messageLength is less than the kind needs, or too long to be written */
     SINEZHAB_REFUSAL_FIELD,      /* a stamp or a four-bit field out of its range */
-    SINEZHAB_REFUSAL_SUFFIX,     /* octets after the fixed part are not whole, even TLVs */
-    SINEZHAB_REFUSAL_ROOM,       /* lent part shorter than the message, or frame under 14 octets */
-    SINEZHAB_REFUSAL_SETTINGS,   /* a setting outside its range, or a lent table not of five */
-    SINEZHAB_REFUSAL_NOW,        /* now below an earlier accepted now */
+    SINEZHAB_REFUSAL_SUFFIX,     /* what stands behind the fixed part is no row of even TLVs */
+    SINEZHAB_REFUSAL_ROOM,       /* the message does not fit into what is lent */
+    SINEZHAB_REFUSAL_SETTINGS,   /* a setting is out of its range, or the table is not of five */
+    SINEZHAB_REFUSAL_NOW,        /* now is less than the unit's */
     SINEZHAB_REFUSAL_DOMAIN,     /* not the set domain */
-    SINEZHAB_REFUSAL_OWN,        /* Announce from the own clock identity */
-    SINEZHAB_REFUSAL_ALTERNATE,  /* Announce with the alternate master flag */
-    SINEZHAB_REFUSAL_STEPS,      /* stepsRemoved 255 or more */
-    SINEZHAB_REFUSAL_REPEAT,     /* sequenceId equals that sender's last live one */
-    SINEZHAB_REFUSAL_FULL,       /* five live masters, a sixth arrives */
-    SINEZHAB_REFUSAL_NOT_MASTER, /* sender is not the chosen master, or none is chosen */
-    SINEZHAB_REFUSAL_UNMATCHED,  /* no partner held */
-    SINEZHAB_REFUSAL_FAULTY,     /* exchange call while faulty */
-    SINEZHAB_REFUSAL_CORRECTION, /* correction at or beyond 65,536,000,000,000 either way */
-    SINEZHAB_REFUSAL_TICK,       /* watch stamp outside 0 to 2^62 - 1 */
-    SINEZHAB_REFUSAL_NOT_READY   /* drift line not due */
+    SINEZHAB_REFUSAL_OWN,        /* an Announce of the own clock */
+    SINEZHAB_REFUSAL_ALTERNATE,  /* an Announce of an alternate master */
+    SINEZHAB_REFUSAL_STEPS,      /* an Announce from 255 steps away, or more */
+    SINEZHAB_REFUSAL_REPEAT,     /* the sequenceId of this live sender's last Announce */
+    SINEZHAB_REFUSAL_FULL,       /* a new sender, and all five places are live */
+    SINEZHAB_REFUSAL_NOT_MASTER, /* from another than the master, or there is none */
+    SINEZHAB_REFUSAL_UNMATCHED,  /* nothing waits for it */
+    SINEZHAB_REFUSAL_FAULTY,     /* a call of the exchange while the unit is faulty */
+    SINEZHAB_REFUSAL_CORRECTION, /* a correction of a second or more */
+    SINEZHAB_REFUSAL_TICK,       /* a stamp of a pulse is negative, or 2^62 or more */
+    SINEZHAB_REFUSAL_NOT_READY   /* the line is not due */
 };
 
 /* Messages */
@@ -161,20 +161,20 @@ enum sinezhab_answer_code {
     SINEZHAB_ANSWER_PAIRED,      /* the Follow_Up gave t1 */
     SINEZHAB_ANSWER_ASKED,       /* (sequence) the frame has the request of this sequenceId */
     SINEZHAB_ANSWER_STAMPED,     /* t3 is given */
-    SINEZHAB_ANSWER_BACK,        /* t2 or t3 below the last local stamp: wiped */
+    SINEZHAB_ANSWER_BACK,        /* a t2 or t3 went back: wiped */
     SINEZHAB_ANSWER_MEASURED,    /* (delay, used, offset, output) an accepted measurement */
     SINEZHAB_ANSWER_NEG,         /* sum below 0 */
     SINEZHAB_ANSWER_LONG,        /* sum over 19,999,998 */
-    SINEZHAB_ANSWER_HUGE,        /* forward - delay at or beyond 1,000,000,000 */
+    SINEZHAB_ANSWER_HUGE,        /* forward less the delay is a second or more */
     SINEZHAB_ANSWER_HUGE_FAULTY, /* the third in a row: the unit is faulty */
-    SINEZHAB_ANSWER_PATH,        /* delay 1,000,000 or more from the last accepted */
+    SINEZHAB_ANSWER_PATH,        /* the delay is far from the last accepted one */
     SINEZHAB_ANSWER_PATH_WIPED,  /* the third in a row: wiped */
     SINEZHAB_ANSWER_STEP,        /* (offset) beyond 100,000,000: wiped */
     SINEZHAB_ANSWER_WIPED,       /* the operator's reset: wiped */
     SINEZHAB_ANSWER_VALID,       /* the sample is taken */
     SINEZHAB_ANSWER_INVALID,     /* the sample is taken, and marked invalid */
     SINEZHAB_ANSWER_TICK_BACK,   /* reference not above the previous: wiped */
-    SINEZHAB_ANSWER_RANGE,       /* y at or beyond 1,000,000,000: wiped */
+    SINEZHAB_ANSWER_RANGE,       /* y of a second or more: wiped */
     SINEZHAB_ANSWER_JUMP,        /* y over jump from the previous: wiped */
     SINEZHAB_ANSWER_LINE,        /* (line, wipes) the drift line */
     SINEZHAB_ANSWER_SHOWS        /* (port, servo, output, now, master, wipes, sequence) */

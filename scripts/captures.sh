@@ -8,7 +8,7 @@ bench=$(dirname "$0")/../bench
 work=$(mktemp -d)
 trap 'rm -rf "$work"' EXIT
 
-# tshark's fields, in the order of the bench's words; a timestamp stands under another name in each kind
+# tshark's fields, in the order of the bench's words; a timestamp has another name in each kind
 header=(messagetype majorsdoid minorversionptp domainnumber minorsdoid flags correction.ns correction.subns messagetypespecific
         clockidentity sourceportid sequenceid controlfield logmessageperiod)
 stamps=(sdr.origintimestamp fu.preciseorigintimestamp dr.receivetimestamp an.origintimestamp)

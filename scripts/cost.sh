@@ -2,7 +2,7 @@
 # What the calls of the door cost: instructions, stack, text and state, and linuxptp's instructions for like work. docs/COST.md has them.
 # Usage: scripts/cost.sh
 # Needs a Debian machine with the kit (rt, or what RT names), python3 and dpkg-dev; where it is x86-64 gcc, binutils and valgrind, else
-# gcc-x86-64-linux-gnu and qemu-user. LIB names a library that is built already, LINUXPTP a folder with linuxptp's source; else it is got
+# gcc-x86-64-linux-gnu and qemu-user. LIB names a library that is built already, LINUXPTP a folder with linuxptp's source; else it is fetched
 # from the machine's own package sources, into a temporary folder. The counts are the same at each run with the same kit and gcc.
 set -euo pipefail
 [ $# = 0 ] || { sed -n '2,6s/^# //p' "$0" >&2; exit 2; }

@@ -1,5 +1,5 @@
 #!/usr/bin/env bash
-# Holds the header of the door for C to the library, plays the bench's stored list of calls through the door and compares its answers with
+# Compares the header of the door for C with the library, plays the bench's stored list of calls through the door and compares its answers with
 # the stored ones, line by line.
 # Usage: scripts/door.sh [CALLS ANSWERS]   (CALLS and ANSWERS: files in the format of docs/BENCH.md; else those of crates/bench)
 # Needs the kit (rt, or what RT names) and gcc; on a machine that is not x86-64 gcc-x86-64-linux-gnu and qemu-user. Status 1 where an

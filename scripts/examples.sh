@@ -1,7 +1,7 @@
 #!/usr/bin/env bash
 # Plays every list of examples/ to the bench and holds its answers to those stored beside it, NAME.answers beside NAME.txt.
 # Usage: scripts/examples.sh [COMMAND..]   (a program that reads lists and writes answers; else ./bench)
-# Status 1 where an answer differs or has nothing to be held to. The last line is 'N passed, M failed'.
+# Status 1 where an answer differs or has nothing to be compared with. The last line is 'N passed, M failed'.
 set -euo pipefail
 cd "$(dirname "$0")/.."
 [ $# != 0 ] || set -- ./bench

@@ -1,6 +1,6 @@
 #!/usr/bin/env bash
-# Tries the wrong answers in crates/NAME/tried as the gate tries those in crates/NAME/must-fail: the prover must refuse each. They stand
-# apart so that the gate stays short.
+# Tries the wrong answers in crates/NAME/tried as the gate tries those in crates/NAME/must-fail: the prover must refuse each. They are
+# kept apart so that the gate stays short.
 # Usage: scripts/tried.sh [NAME..]   (crates; else all)
 # Needs the kit (rt, or what RT names). What target/ has proved is not proved again. Status 1 where an edit is not refused.
 set -euo pipefail

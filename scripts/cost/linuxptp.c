@@ -83,7 +83,7 @@ static void steer(void)
     need(state == SERVO_LOCKED && ppb == 250, "pi_sample");
 }
 
-/* Of five, as document 01 asks: the new one is the largest, in the middle, the smallest. */
+/* Of five: the new one is the largest, in the middle, the smallest. */
 static void filter(void)
 {
     static const struct { const char *name; int64_t ns; } last[] = {

@@ -1,4 +1,4 @@
-/* plain.c: what the counted code asks of the C library, as plain loops: which memcpy a C library takes hangs on the machine. */
+/* plain.c: what the counted code asks of the C library, as plain loops: which memcpy a C library takes depends on the machine. */
 #include <stddef.h>
 #include <stdint.h>
 

@@ -9,7 +9,7 @@ PLAIN = {"memcpy", "memmove", "memset", "memcmp"}
 
 
 def counted(path):
-    """The name of the call, all instructions, and those of plain.c: the cost lines of a function that do not stand behind `calls=`."""
+    """The name of the call, all instructions, and those of plain.c: the cost lines of a function that do not follow `calls=`."""
     names, name, total, plain, function, called = {}, None, 0, 0, None, False
     for line in open(path):
         if line.startswith("desc: Trigger: Client Request: "):

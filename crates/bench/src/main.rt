@@ -8,7 +8,7 @@ use libc::STDIN_FILENO;
 ghost use Prim.Native.Nat.{_<_};
 ghost use lib.ListN.{length as List·length};
 
-// A line of this length stands in front of `line`; one that is longer than that is too long and counts as none, which is no call.
+// The line: the first `length` octets of `line`. One for which there was no room counts as empty, which is no call.
 fn whole_line(line: &[u8], length: usize) -> &[u8] {
     if length <= line.len() {
         &line[0..length]
@@ -34,7 +34,7 @@ fn line_end(mut desk: Desk, line: &[u8], length: usize, out: &mut Out) -> Desk {
     if passed_over(line, length) {
         return desk;
     }
-    let mut octets = [0u8; 131072];
+    let mut octets = [0u8; 131_072];
     let call = call_of(whole_line(line, length), &mut octets);
     let mut next = desk.answer(out, call, &octets);
     next.at = text(out, next.at, b"\n");
@@ -119,7 +119,7 @@ fn run(block: &mut [u8], line: &mut [u8], out: &mut Out) {
 
 fn main() {
     let mut block = io::large_buffer();
-    let mut line = [0u8; 262144];
+    let mut line = [0u8; 262_144];
     let mut out = io::large_buffer();
     run(&mut block, &mut line, &mut out);
 }

@@ -1,4 +1,4 @@
-// What is answered to `read` and `write`.
+// What is answered to `read` and `write`, which need no unit.
 ghost use Prim.Native.Nat.{_≤_};
 use crate::refused;
 use bench_text::Out;
@@ -30,20 +30,21 @@ pub fn read(out: &mut Out, at: usize, s: &[u8]) -> usize
             let end = message_text(out, at, m);
             octets_field(out, end, b" suffix=", part_of(s, p))
         }
-        Read::Refused(r) => refused(out, at, r),
+        Read::Refused(refusal) => refused(out, at, refusal),
     }
 }
 
+// The part that is lent to writing has `room` octets, each ee before the call.
 pub fn write(out: &mut Out, at: usize, m: Message, suffix: &[u8], room: usize) -> usize
     ensures { λ r. ⌜ r ≤ 65536 ⌝ }
 {
-    let mut whole = [0xeeu8; 70000];
-    if 70000 < room {
+    let mut whole = [0xeeu8; 70_000];
+    if 70_000 < room {
         return text(out, at, b"bad line");
     }
     let part = &mut whole[0..room];
     match wire_writer::write(m, suffix, part) {
         Written::Wrote(_) => octets_field(out, at, b"wrote ", part),
-        Written::Barred(r) => refused(out, at, r),
+        Written::Barred(refusal) => refused(out, at, refusal),
     }
 }

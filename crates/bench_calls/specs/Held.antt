@@ -1,11 +1,12 @@
 -- How many octets a call has in the store.
 use Prim.Native.Nat.{ℕ}
 use Rattle.bench_calls.specs.declared.Call.{Call}
-use Rattle.bench_calls.specs.declared.Call.the-variants.{Bad, Lend, Read, Write, Unit as OfUnit}
-use Rattle.bench_calls.specs.declared.units.UnitCall.{UnitCall}
-use Rattle.bench_calls.specs.declared.units.UnitCall.the-variants.{None, Make, Receive, Request, Sent, Time, Reset, Tick, Line, Show}
+use Rattle.bench_calls.specs.declared.Call.the-variants.{Bad, Lend, Read, Write}
+use Rattle.bench_calls.specs.declared.Call.the-variants.{ToUnit as CallToUnit}
+use Rattle.bench_calls.specs.declared.to_unit.ToUnit.{ToUnit}
+use Rattle.bench_calls.specs.declared.to_unit.ToUnit.the-variants.{None, Make, Receive, Request, Sent, Time, Reset, Tick, Line, Show}
 
-abbrev pub heldByUnit : UnitCall → ℕ
+abbrev pub heldByUnit : ToUnit → ℕ
 heldByUnit None = 0
 heldByUnit (Make s) = 0
 heldByUnit (Receive now t n) = n
@@ -22,4 +23,4 @@ heldBy Bad = 0
 heldBy (Lend n) = 0
 heldBy (Read n) = n
 heldBy (Write m n room) = n
-heldBy (OfUnit c) = heldByUnit c
+heldBy (CallToUnit c) = heldByUnit c

@@ -125,7 +125,7 @@ fn offer_words(s: &[u8], at: usize) -> OfferWords {
     }
 }
 
-// What stands behind the timestamp hangs on the kind: of any other there is none.
+// The kind says which words follow the timestamp. Of any other kind there is no message.
 pub(crate) fn body_words(s: &[u8], at: usize, kind: u8, stamp: Stamp) -> BodyWords {
     match kind {
         kinds::Sync::KIND => BodyWords {

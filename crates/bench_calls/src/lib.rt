@@ -1,13 +1,13 @@
-// A line of the bench becomes a call: one function for each call word, which reads the words behind it and hands typed values on.
+// A line of the bench's page becomes a call: one function for each call word, which reads the words behind it into typed values.
 mod fields;
-pub mod units;
+pub mod to_unit;
 mod words;
 
 use fields::body_words;
 use fields::header_words;
 use fields::stamp_words;
-use units::UnitCall;
-use units::unit_call;
+use to_unit::ToUnit;
+use to_unit::call_to_unit;
 use wire_layout::message::Message;
 use words::begins;
 use words::number;
@@ -17,15 +17,15 @@ ghost use Prim.Native.Nat.{_≤_};
 ghost use Rattle.bench_calls.specs.Held.{heldBy};
 
 // Where the octets of a call are put: more than the longest line can have.
-pub type Store = [u8; 131072];
+pub type Store = [u8; 131_072];
 
-// The octets of a call stand in front of the buffer that they were read into, as many as it says.
+// A call's octets are the first of the store, as many as it says.
 pub enum Call {
     Bad,
     Lend(u8),
     Read(usize),
     Write(Message, usize, usize),
-    Unit(UnitCall),
+    ToUnit(ToUnit),
 }
 
 fn lend(s: &[u8], at: usize) -> Call
@@ -57,7 +57,7 @@ fn write(s: &[u8], at: usize, octets: &mut Store) -> Call
     let stamp = time.stamp;
     let rest = body_words(s, time.next, kind.value, stamp);
     let suffix = octets_at(s, rest.next, octets);
-    let room = number(s, suffix.next, 70000);
+    let room = number(s, suffix.next, 70_000);
     if room.next == s.len() {
         let header = head.header;
         let body = rest.body;
@@ -66,7 +66,7 @@ fn write(s: &[u8], at: usize, octets: &mut Store) -> Call
     Call::Bad
 }
 
-// The call that the line is; the octets that it names stand within the store.
+// The call that the line is; its octets lie within the store.
 pub fn call_of(s: &[u8], octets: &mut Store) -> Call
     ensures { λ r. ⌜ heldBy r ≤ 131072 ⌝ }
 {
@@ -79,5 +79,5 @@ pub fn call_of(s: &[u8], octets: &mut Store) -> Call
     if begins(s, b"write") {
         return write(s, 5, octets);
     }
-    Call::Unit(unit_call(s, octets))
+    Call::ToUnit(call_to_unit(s, octets))
 }

@@ -118,7 +118,7 @@ pub(crate) fn unsigned8(s: &[u8], at: usize) -> Word8 {
 }
 
 pub(crate) fn unsigned16(s: &[u8], at: usize) -> Word16 {
-    let w = number(s, at, 65535);
+    let w = number(s, at, 65_535);
     Word16 {
         value: w.value as u16,
         next: w.next,
@@ -126,7 +126,7 @@ pub(crate) fn unsigned16(s: &[u8], at: usize) -> Word16 {
 }
 
 pub(crate) fn unsigned32(s: &[u8], at: usize) -> Word32 {
-    let w = number(s, at, 4294967295);
+    let w = number(s, at, 4_294_967_295);
     Word32 {
         value: w.value as u32,
         next: w.next,
@@ -168,15 +168,15 @@ pub(crate) fn signed8(s: &[u8], at: usize) -> Int8 {
 }
 
 pub(crate) fn signed16(s: &[u8], at: usize) -> Int16 {
-    let w = signed(s, at, 32767);
+    let w = signed(s, at, 32_767);
     Int16 {
-        value: wire_octets::signed16((w.value % 65536) as u16),
+        value: wire_octets::signed16((w.value % 65_536) as u16),
         next: w.next,
     }
 }
 
 pub(crate) fn signed64(s: &[u8], at: usize) -> Int64 {
-    let w = signed(s, at, 9223372036854775807);
+    let w = signed(s, at, 9_223_372_036_854_775_807);
     Int64 {
         value: wire_octets::signed64(w.value),
         next: w.next,
@@ -250,13 +250,13 @@ fn pair(high: u8, low: u8) -> u16 {
     (h as u16) * 16 + (l as u16)
 }
 
-// Where the octets of a line are put: a line of 262,144 has at most half as many.
+// How many octets a word has, and where it ends.
 pub struct Octets {
     pub count: usize,
     pub next: usize,
 }
 
-// Octets in lower-case hex, put in front of `into`; `-` stands for none.
+// Octets in lower-case hex, put in front of `into`; `-` means none.
 pub(crate) fn octets_at(s: &[u8], at: usize, into: &mut Store) -> Octets
     ensures { λ r. ⌜ r .count ≤ 131072 ⌝ }
 {
@@ -275,7 +275,7 @@ pub(crate) fn octets_at(s: &[u8], at: usize, into: &mut Store) -> Octets
     }
     let mut i = from;
     let mut count = 0;
-    while count < 131072 {
+    while count < 131_072 {
         if s.len() - i < 2 {
             break;
         }

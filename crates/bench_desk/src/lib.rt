@@ -4,22 +4,21 @@ mod asks;
 ghost use mathlib.Core.Path.{_≡_};
 ghost use Prim.Native.Nat.{_≤_};
 use asks::Asks;
-use asks::asked;
+use asks::asks_of;
 use asks::front;
+use bench_answers::answer_text;
 use bench_answers::messages::read;
 use bench_answers::messages::write;
 use bench_answers::refused;
-use bench_answers::units::answer_text;
 use bench_calls::Call;
 use bench_calls::Store;
 use bench_text::Out;
-use bench_text::octets_field;
 use bench_text::text;
 use rules_settings::Settings;
+use unit::Stepped;
 use unit::Unit;
 use unit::request_into;
-use unit_core::calls::Answer;
-use unit_core::calls::Call as Step;
+use unit_core::calls::Call as UnitCall;
 
 pub struct Desk {
     pub length: usize, // of a line that is not yet whole
@@ -30,20 +29,10 @@ pub struct Desk {
 }
 
 // A frame has at most 2,000 octets; no call names more.
-fn framed(length: usize) -> usize
+fn frame_length(length: usize) -> usize
     ensures { λ r. ⌜ r ≤ 2000 ⌝ }
 {
     if length <= 2000 { length } else { 2000 }
-}
-
-fn asked_text(out: &mut Out, at: usize, answer: Answer, frame: &[u8]) -> usize
-    ensures { λ r. ⌜ r ≤ 65536 ⌝ }
-{
-    let end = answer_text(out, at, answer);
-    match answer {
-        Answer::Asked(_) => octets_field(out, end, b" frame=", frame),
-        _ => end,
-    }
 }
 
 // What is answered where the unit is not asked.
@@ -51,25 +40,34 @@ fn unasked(out: &mut Out, at: usize, asks: Asks) -> usize
     ensures { λ r. ⌜ r ≤ 65536 ⌝ }
 {
     match asks {
-        Asks::Refused(number) => refused(out, at, number),
+        Asks::Refused(refusal) => refused(out, at, refusal),
         Asks::NoUnit => text(out, at, b"no unit"),
         _ => text(out, at, b"bad line"),
     }
 }
 
-// What is answered to a call that is none of the unit's.
-fn told(out: &mut Out, at: usize, call: Call, octets: &Store) -> usize
+// What is answered to a call that needs no unit.
+fn other_answer(out: &mut Out, at: usize, call: Call, octets: &Store) -> usize
     ensures { λ r. ⌜ r ≤ 65536 ⌝ }
 {
     match call {
+        Call::Lend(_) => text(out, at, b"ok"),
         Call::Read(n) => read(out, at, front(octets, n)),
         Call::Write(m, n, room) => write(out, at, m, front(octets, n), room),
         _ => text(out, at, b"bad line"),
     }
 }
 
+// How many records of the table are lent after the call.
+fn lent_after(lent: u8, call: Call) -> u8 {
+    match call {
+        Call::Lend(n) => n,
+        _ => lent,
+    }
+}
+
 impl Desk {
-    // Before the first unit: its settings stand for none.
+    // Before the first unit, with settings of zeros in its place.
     pub fn bare() -> Desk
         ensures { λ r. ⌜ r .at ≡ 0 ⌝ }
     {
@@ -91,42 +89,43 @@ impl Desk {
         self
     }
 
+    // The unit as a call left it, and what it answered; `frame` is what was lent for a request.
+    fn hears(mut self, out: &mut Out, stepped: Stepped, frame: &[u8]) -> Desk
+        ensures { λ r. ⌜ r .at ≤ 65536 ⌝ }
+    {
+        let unit = stepped.unit;
+        let answer = stepped.answer;
+        self.unit = unit;
+        self.at = answer_text(out, self.at, answer, frame);
+        self
+    }
+
     // A frame of so many octets is lent for the unit's Delay_Req.
-    fn requests(mut self, out: &mut Out, now: u64, length: usize) -> Desk
+    fn requests(self, out: &mut Out, now: u64, length: usize) -> Desk
         ensures { λ r. ⌜ r .at ≤ 65536 ⌝ }
     {
         let mut whole = [0xeeu8; 2000];
-        let room = framed(length);
+        let room = frame_length(length);
         let frame = &mut whole[0..room];
-        let unit = self.unit;
-        let stepped = request_into(unit, now, frame);
-        let after = stepped.unit;
-        let answer = stepped.answer;
-        self.unit = after;
-        self.at = asked_text(out, self.at, answer, frame);
-        self
+        let stepped = request_into(self.unit, now, frame);
+        self.hears(out, stepped, frame)
     }
 
-    fn steps(mut self, out: &mut Out, call: Step) -> Desk
+    fn calls(self, out: &mut Out, call: UnitCall) -> Desk
         ensures { λ r. ⌜ r .at ≤ 65536 ⌝ }
     {
         let unit = self.unit;
-        let stepped = unit.step(call);
-        let after = stepped.unit;
-        let answer = stepped.answer;
-        self.unit = after;
-        self.at = answer_text(out, self.at, answer);
-        self
+        self.hears(out, unit.step(call), b"")
     }
 
-    // A call of the unit. A refused `unit` line leaves the unit that was there.
+    // A line to the unit. A refused `unit` line leaves the unit that was there.
     fn plays(mut self, out: &mut Out, asks: Asks) -> Desk
         ensures { λ r. ⌜ r .at ≤ 65536 ⌝ }
     {
         match asks {
             Asks::Make(settings) => self.makes(out, settings),
             Asks::Request(now, length) => self.requests(out, now, length),
-            Asks::Step(call) => self.steps(out, call),
+            Asks::Call(call) => self.calls(out, call),
             _ => {
                 self.at = unasked(out, self.at, asks);
                 self
@@ -139,14 +138,10 @@ impl Desk {
         ensures { λ r. ⌜ r .at ≤ 65536 ⌝ }
     {
         match call {
-            Call::Unit(c) => self.plays(out, asked(self.made, self.lent, c, octets)),
-            Call::Lend(n) => {
-                self.lent = n;
-                self.at = text(out, self.at, b"ok");
-                self
-            }
+            Call::ToUnit(c) => self.plays(out, asks_of(self.made, self.lent, c, octets)),
             _ => {
-                self.at = told(out, self.at, call, octets);
+                self.lent = lent_after(self.lent, call);
+                self.at = other_answer(out, self.at, call, octets);
                 self
             }
         }

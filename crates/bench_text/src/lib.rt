@@ -6,7 +6,7 @@ use libc::STDOUT_FILENO;
 ghost use mathlib.Core.Path.{_≡_};
 ghost use Prim.Native.Nat.{_≤_, _<_};
 
-pub type Out = [u8; 65536];
+pub type Out = [u8; 65_536];
 
 // The gathered octets are written out: none are left.
 pub fn flush(out: &[u8], at: usize) -> usize
@@ -21,7 +21,7 @@ pub fn flush(out: &[u8], at: usize) -> usize
 fn octet(out: &mut Out, at: usize, b: u8) -> usize
     ensures { λ r. ⌜ r ≤ 65536 ⌝ }
 {
-    if at < 65536 {
+    if at < 65_536 {
         out[at] = b;
         return at + 1;
     }
@@ -34,7 +34,7 @@ fn octet(out: &mut Out, at: usize, b: u8) -> usize
 fn place(at: usize) -> usize
     ensures { λ r. ⌜ r ≤ 65536 ⌝ }
 {
-    if at <= 65536 { at } else { 65536 }
+    if at <= 65_536 { at } else { 65_536 }
 }
 
 pub fn text(out: &mut Out, at: usize, t: &[u8]) -> usize
@@ -89,7 +89,7 @@ pub fn signed_field64(out: &mut Out, at: usize, name: &[u8], n: i64) -> usize
 {
     let bits = wire_octets::bits64(n);
     let end = text(out, at, name);
-    if bits < 9223372036854775808 {
+    if bits < 9_223_372_036_854_775_808 {
         return decimal(out, end, bits);
     }
     let behind = octet(out, end, b'-');
@@ -137,7 +137,7 @@ fn hex_octet(out: &mut Out, at: usize, b: u8) -> usize
     octet(out, end, hex_digit(b % 16))
 }
 
-// Octets in hex behind their name; `-` stands for none.
+// Octets in hex behind their name; `-` means none.
 pub fn octets_field(out: &mut Out, at: usize, name: &[u8], t: &[u8]) -> usize
     ensures { λ r. ⌜ r ≤ 65536 ⌝ }
 {

@@ -33,7 +33,7 @@ lentBy h w =
       answer = h .answer;
     }
 
--- "a lent table not of five" is refused, and all stays as it was
+-- a lent table that is not of five is refused, and all stays as it was
 abbrev pub hearOf : Core → Servo → List Record → Watch → CallWords → Lent
 hearOf u v t w c =
     cond (eqb (length t) 5) (lentBy (heardOf u v t c) w) (record { core = u; servo = v; table = t; watch = w; answer = untabledOf c })

@@ -1,11 +1,11 @@
--- The main loop: between the calls it holds the four parts, and lends each call those that it takes, as the last call left them.
+-- The main loop (rule 12.3): between the calls it holds the four parts, and lends each call those that it takes, as the call before left them.
 use mathlib.Core.List.{List, [], _∷_}
 use Prim.Native.Nat.{ℕ}
 use lib.IntN.{ℤ, pos}
 use Rattle.numbers.specs.declared.stamp.Stamp.{Stamp}
 use Rattle.wire_layout.specs.declared.message.Message.{Message}
 use Rattle.rules_masters.specs.declared.record.Record.{Record}
-use Rattle.rules_masters.specs.Records.{emptyRecord}
+use Rattle.rules_masters.specs.Records.{freshRecord}
 use Rattle.rules_servo.specs.declared.Servo.{Servo}
 use Rattle.rules_watch.specs.declared.Watch.{Watch}
 use Rattle.rules_watch.specs.Watch.{freshWatch}
@@ -13,7 +13,7 @@ use Rattle.rules_settings.specs.declared.Settings.{Settings}
 use Rattle.unit_core.specs.declared.Core.{Core}
 use Rattle.unit_core.specs.declared.calls.Call.{Call}
 use Rattle.unit_core.specs.declared.calls.Call.the-variants.{Receive, Request, Sent, Time, Reset, Tick, Line, Show}
-use Rattle.unit_core.specs.Wipe.{freshServo, freshCore}
+use Rattle.unit_core.specs.Wipe.{restoredServo, freshCore}
 use Rattle.unit.specs.declared.Unit.{Unit}
 use Rattle.door_words.specs.declared.messages.MessageWords.{MessageWords}
 use Rattle.door_words.specs.declared.answers.AnswerWords.{AnswerWords}
@@ -30,9 +30,9 @@ pub record Parts : Type 0 where
   pub table : List Record
   pub watch : Watch
 
--- the card that the parts are
-abbrev pub cardOf : Parts → Unit
-cardOf p = record { core = p .core; servo = p .servo; table = record { records = p .table }; watch = p .watch }
+-- the unit that the parts are
+abbrev pub unitOf : Parts → Unit
+unitOf p = record { core = p .core; servo = p .servo; table = record { records = p .table }; watch = p .watch }
 
 -- what is found after a call
 pub record Found : Type 0 where
@@ -96,7 +96,7 @@ abbrev pub freshParts : Settings → Parts
 freshParts s =
     record {
       core = freshCore s;
-      servo = freshServo s;
-      table = emptyRecord ∷ emptyRecord ∷ emptyRecord ∷ emptyRecord ∷ emptyRecord ∷ [];
+      servo = restoredServo s;
+      table = freshRecord ∷ freshRecord ∷ freshRecord ∷ freshRecord ∷ freshRecord ∷ [];
       watch = freshWatch;
     }

@@ -1,10 +1,10 @@
-// The door for the card's firmware: a call lends the parts it touches and finds them updated. All exports stand here, under one prefix.
+// The door for the card's firmware: a call lends the parts it touches and finds them updated. All exports are here, under one prefix.
 ghost use mathlib.Core.Path.{_≡_};
 ghost use lib.ListN.{length};
 ghost use Rattle.wire_layout.specs.Reading.{readOf};
-ghost use Rattle.rules_masters.specs.Records.{emptyRecord};
+ghost use Rattle.rules_masters.specs.Records.{freshRecord};
 ghost use Rattle.rules_watch.specs.Watch.{freshWatch};
-ghost use Rattle.unit_core.specs.Frame.{frameAfter};
+ghost use Rattle.unit_measuring.specs.Frame.{frameAfter};
 ghost use Rattle.door_words.specs.Messages.{readWords, messageBy, writtenBy, leftWords};
 ghost use Rattle.door_steps.specs.Steps.{pulseOf, requestedOf, madeOf};
 ghost use Rattle.door.specs.Lending.{hearOf, turnedOf};
@@ -59,12 +59,12 @@ pub extern "C" fn sinezhab_watch() -> Watch
 // An empty record: the table of a fresh unit is five of them.
 #[no_mangle]
 pub extern "C" fn sinezhab_record() -> Record
-    ensures { λ r. ⌜ r ≡ emptyRecord ⌝ }
+    ensures { λ r. ⌜ r ≡ freshRecord ⌝ }
 {
     Record::fresh()
 }
 
-// The calls that are lent the table. It is five records; the servo record is lent too and found updated, and a wipe reaches the watch.
+// The calls that are lent the table, five records (rule 12.12); the servo record is found updated (rules 8.9 and 12.11), and a wipe reaches the watch.
 #[no_mangle]
 pub extern "C" fn sinezhab_hear(
     core: &mut Core,

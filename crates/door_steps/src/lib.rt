@@ -1,7 +1,9 @@
 // The steps of the unit over numbers, by value, each laid out for the call that lends its parts and stores them.
 ghost use mathlib.Core.Path.{_≡_};
+ghost use mathlib.Core.Bool.{cond};
 ghost use lib.ListN.{length};
-ghost use Rattle.unit_core.specs.Frame.{frameAfter};
+ghost use Rattle.rules_watch.specs.Watch.{freshWatch};
+ghost use Rattle.unit_measuring.specs.Frame.{frameAfter};
 ghost use Rattle.door_steps.specs.Steps.{laid, laidBy, receivedOf, heardOf, untabledOf, turnedBy, saidBy, turnOf, tickOf, toldBy, pulseOf, requestedOf, madeWith, madeOf};
 use door_words::answers::AnswerWords;
 use door_words::calls::CallWords;
@@ -18,13 +20,19 @@ use rules_settings::Given;
 use rules_settings::Set;
 use rules_settings::Settings;
 use rules_watch::Watch;
+use unit_choosing::announce;
+use unit_choosing::time;
 use unit_core::Core;
 use unit_core::Moved;
-use unit_core::frame::request_into;
+use unit_measuring::asking::sent;
+use unit_measuring::frame::request_into;
+use unit_measuring::hearing::heard;
+use unit_ticking::line;
+use unit_ticking::tick;
 use wire_layout::message::Body;
 use wire_layout::message::Message;
 
-// What a call that is lent the table leaves: each part stands one step deep.
+// What a call that is lent the table leaves: each part is one step deep.
 pub struct Heard {
     pub core: Core,
     pub servo: Servo,
@@ -105,17 +113,17 @@ fn received(core: Core, servo: Servo, table: Table, now: u64, arrival: Stamp, m:
     let body = m.body;
     match body {
         Body::Announce(stamp, offer) => {
-            let announce = Announce {
+            let m = Announce {
                 header,
                 stamp,
                 offer,
             };
-            let seated = core.announce(servo, table, now, announce);
+            let seated = announce(core, servo, table, now, m);
             let moved = seated.moved;
             let after = seated.table;
             laid_by(moved, after)
         }
-        _ => laid_by(core.heard(servo, now, arrival, m), table),
+        _ => laid_by(heard(core, servo, now, arrival, m), table),
     }
 }
 
@@ -126,7 +134,7 @@ pub fn hear(core: Core, servo: Servo, rows: [Record; 5], words: CallWords) -> He
     let table = Table { records: rows };
     match words.hears() {
         Hears::Receive(now, arrival, m) => received(core, servo, table, now, arrival, m),
-        Hears::Time(now) => laid_by(core.time(servo, table, now), table),
+        Hears::Time(now) => laid_by(time(core, servo, table, now), table),
         Hears::Barred(number) => laid(core, servo, table, AnswerWords::refusing(number), false),
     }
 }
@@ -182,18 +190,25 @@ pub fn turn(core: Core, servo: Servo, words: CallWords) -> Turned
     ensures { λ r. ⌜ r ≡ turnOf core servo words ⌝ }
 {
     match words.turns() {
-        Turns::Sent(now, sequence, t3) => turned_by(core.sent(servo, now, sequence, t3)),
+        Turns::Sent(now, sequence, t3) => turned_by(sent(core, servo, now, sequence, t3)),
         Turns::Reset => turned_by(core.reset()),
         Turns::Show => said(core, servo, AnswerWords::of(core.show(servo))),
         Turns::Barred(number) => said(core, servo, AnswerWords::refusing(number)),
     }
 }
 
+// The watch after a call: fresh where it wiped.
+fn left(watch: Watch, wipes: bool) -> Watch
+    ensures { λ r. ⌜ r ≡ cond wipes freshWatch watch ⌝ }
+{
+    if wipes { Watch::fresh() } else { watch }
+}
+
 // A second pulse.
 fn ticked(core: Core, servo: Servo, watch: Watch, reference: i64, clock: i64) -> Pulsed
     ensures { λ r. ⌜ r ≡ tickOf core servo watch reference clock ⌝ }
 {
-    let ticked = core.tick(servo, watch, reference, clock);
+    let ticked = tick(core, servo, watch, reference, clock);
     let moved = ticked.moved;
     let after = ticked.watch;
     let core = moved.core;
@@ -202,7 +217,7 @@ fn ticked(core: Core, servo: Servo, watch: Watch, reference: i64, clock: i64) ->
     Pulsed {
         core,
         servo,
-        watch: after,
+        watch: left(after, moved.wipes),
         answer: AnswerWords::of(answer),
     }
 }
@@ -225,12 +240,12 @@ pub fn pulse(core: Core, servo: Servo, watch: Watch, words: CallWords) -> Pulsed
 {
     match words.pulses() {
         Pulses::Tick(reference, clock) => ticked(core, servo, watch, reference, clock),
-        Pulses::Line => told(core, servo, watch, AnswerWords::of(core.line(watch))),
+        Pulses::Line => told(core, servo, watch, AnswerWords::of(line(core, watch))),
         Pulses::Barred(number) => told(core, servo, watch, AnswerWords::refusing(number)),
     }
 }
 
-// A request into a lent frame. It asks nothing of the servo, so a fresh one stands for it.
+// A request into a lent frame. It asks nothing of the servo, so a fresh one takes its place.
 pub fn request(core: Core, frame: &mut [u8], time: u64) -> Requested
     ensures { λ r. ⌜ (r ≡ requestedOf core time (length (now (frame .entry)))) × (now (frame .exit) ≡ frameAfter core time (now (frame .entry))) ⌝ }
 {
@@ -258,7 +273,7 @@ fn made_with(refused: u8, settings: Settings) -> Made
 pub fn make(given: Given) -> Made
     ensures { λ r. ⌜ r ≡ madeOf given ⌝ }
 {
-    match given.accepted() {
+    match given.settings() {
         Set::Accepted(settings) => made_with(0, settings),
         Set::Refused(number) => made_with(number.number(), Settings::bare()),
     }

@@ -1,4 +1,4 @@
--- The call that numbers stand for.
+-- The call that numbers mean.
 use mathlib.Core.Bool.{cond}
 use Prim.Native.Nat.{ℕ}
 use lib.Dec.{eqb}

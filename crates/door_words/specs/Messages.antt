@@ -1,4 +1,4 @@
--- A message as numbers, and the message that such numbers stand for.
+-- A message as numbers, and the message that such numbers mean.
 use mathlib.Core.Bool.{cond}
 use mathlib.Core.List.{List}
 use Prim.Native.Nat.{ℕ}
@@ -71,7 +71,7 @@ readWords (reads.Refused r) = refusedWords (numberOf r)
 abbrev pub with : Header → Body → Handed
 with h b = Got (record { header = h; body = b })
 
--- the five kinds of document 01; KIND: "kind not in the table"
+-- the five kinds of rule 2.5; any other is KIND (rule 3.3)
 unfoldable pub byKind : ℕ → Header → Stamp → Port → Offer → Handed
 byKind k h t p o =
     cond (eqb k 0) (with h (Sync t))
@@ -91,7 +91,7 @@ abbrev pub writtenBy : Handed → List ℕ → ℕ → WrittenWords
 writtenBy (Got m) suffix room = writtenWords (writeOf m suffix room)
 writtenBy (Barred n) suffix room = record { refused = n; length = 0 }
 
--- "A refusal returns its number only, and state and frame keep their contents."
+-- rule 3.51: a refusal is its number, and all stays as it was
 abbrev pub leftWords : Handed → List ℕ → List ℕ → List ℕ
 leftWords (Got m) suffix part = leftBy (writeOf m suffix (length part)) m suffix part
 leftWords (Barred n) suffix part = part

@@ -1,12 +1,15 @@
 // An answer of the unit as numbers.
 ghost use mathlib.Core.Path.{_≡_};
-ghost use Rattle.door_words.specs.Answers.{portCode, servoCode, noLine, plain, refusing, naming, asking, measuring, stepping, lining, showing, answerWords};
+ghost use Rattle.door_words.specs.Answers.{portCode, servoCode, noLine, plain, refusing, naming, asking, measuring, stepping, lining, showing, choosing, exchanging, pulsing, answerWords};
 use numbers::refusal::Refusal;
 use numbers::units::Nanoseconds;
 use numbers::units::Ppb;
 use rules_exchange::Accepted;
+use rules_exchange::said::Said;
 use rules_masters::chosen::Chosen;
+use rules_masters::chosen::Decision;
 use rules_servo::shown::Shown;
+use rules_watch::Pulse;
 use rules_watch::totals::Line;
 use unit_core::calls::Answer;
 use unit_core::calls::PortState;
@@ -15,8 +18,8 @@ use unit_core::calls::Shows;
 // What a code does not carry is 0.
 #[repr(C)]
 pub struct AnswerWords {
-    pub code: u8, // the place of the answer in unit's `Answer`, from 0
-    pub refused: u8, // document 01's number
+    pub code: u8, // of the answer, as specs/Answers.antt lists them
+    pub refused: u8, // the refusal's number: rule 3.N
     pub port: u8, // 0 FAULTY, 1 LISTENING, 2 UNCALIBRATED, 3 SLAVE
     pub servo: u8, // 0 HOLDOVER, 1 TRACKING, 2 ADJUSTING
     pub sequence: u16,
@@ -158,35 +161,59 @@ impl AnswerWords {
         words
     }
 
+    fn choosing(decision: Decision) -> AnswerWords
+        ensures { λ r. ⌜ r ≡ choosing decision ⌝ }
+    {
+        match decision {
+            Decision::Same(master) => AnswerWords::naming(1, master),
+            Decision::Changed(master) => AnswerWords::naming(2, master),
+        }
+    }
+
+    fn exchanging(said: Said, output: Ppb) -> AnswerWords
+        ensures { λ r. ⌜ r ≡ exchanging said output ⌝ }
+    {
+        match said {
+            Said::Held => AnswerWords::plain(3),
+            Said::Paired => AnswerWords::plain(4),
+            Said::Asked(sequence) => AnswerWords::asking(sequence),
+            Said::Stamped => AnswerWords::plain(6),
+            Said::Back => AnswerWords::plain(7),
+            Said::Neg => AnswerWords::plain(9),
+            Said::Long => AnswerWords::plain(10),
+            Said::Huge => AnswerWords::plain(11),
+            Said::HugeFaulty => AnswerWords::plain(12),
+            Said::Path => AnswerWords::plain(13),
+            Said::PathWiped => AnswerWords::plain(14),
+            Said::Step(offset) => AnswerWords::stepping(offset),
+            Said::Measured(found) => AnswerWords::measuring(found, output),
+        }
+    }
+
+    fn pulsing(pulse: Pulse) -> AnswerWords
+        ensures { λ r. ⌜ r ≡ pulsing pulse ⌝ }
+    {
+        match pulse {
+            Pulse::Valid => AnswerWords::plain(17),
+            Pulse::Invalid => AnswerWords::plain(18),
+            Pulse::Back => AnswerWords::plain(19),
+            Pulse::Range => AnswerWords::plain(20),
+            Pulse::Jump => AnswerWords::plain(21),
+        }
+    }
+
     // Any answer.
     pub fn of(answer: Answer) -> AnswerWords
         ensures { λ r. ⌜ r ≡ answerWords answer ⌝ }
     {
         match answer {
             Answer::Refused(number) => AnswerWords::refusing(number.number()),
-            Answer::Chose(master) => AnswerWords::naming(1, master),
-            Answer::Changed(master) => AnswerWords::naming(2, master),
-            Answer::Asked(sequence) => AnswerWords::asking(sequence),
-            Answer::Measured(found, output) => AnswerWords::measuring(found, output),
-            Answer::Step(offset) => AnswerWords::stepping(offset),
+            Answer::Choice(decision) => AnswerWords::choosing(decision),
+            Answer::Exchange(said, output) => AnswerWords::exchanging(said, output),
+            Answer::Watch(pulse) => AnswerWords::pulsing(pulse),
+            Answer::Wiped => AnswerWords::plain(16),
             Answer::Line(line, wipes) => AnswerWords::lining(line, wipes),
             Answer::Shows(s) => AnswerWords::showing(s),
-            Answer::Held => AnswerWords::plain(3),
-            Answer::Paired => AnswerWords::plain(4),
-            Answer::Stamped => AnswerWords::plain(6),
-            Answer::Back => AnswerWords::plain(7),
-            Answer::Neg => AnswerWords::plain(9),
-            Answer::Long => AnswerWords::plain(10),
-            Answer::Huge => AnswerWords::plain(11),
-            Answer::HugeFaulty => AnswerWords::plain(12),
-            Answer::Path => AnswerWords::plain(13),
-            Answer::PathWiped => AnswerWords::plain(14),
-            Answer::Wiped => AnswerWords::plain(16),
-            Answer::Valid => AnswerWords::plain(17),
-            Answer::Invalid => AnswerWords::plain(18),
-            Answer::TickBack => AnswerWords::plain(19),
-            Answer::Range => AnswerWords::plain(20),
-            Answer::Jump => AnswerWords::plain(21),
         }
     }
 }

@@ -29,7 +29,7 @@ pub struct MessageWords {
     pub to: usize, // .. and ends
 }
 
-// The message that the words stand for, or the number that refuses them.
+// The message that the words mean, or the number that refuses them.
 pub enum Handed {
     Got(Message),
     Barred(u8),

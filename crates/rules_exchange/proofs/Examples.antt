@@ -1,75 +1,60 @@
--- P1 to P6 of document 01, by computation.
+-- Numbers to meet of the exchange (rules 11.1 to 11.6 and 11.9), by computation.
 use mathlib.Core.Path.{_≡_, refl}
-use mathlib.Core.Bool.{false}
 use mathlib.Core.List.{List, [], _∷_}
-use Prim.Native.Nat.{ℕ}
-use lib.IntN.{pos, negsuc}
-use Rattle.numbers.specs.Rounding.{floorZ, roundN}
-use Rattle.numbers.specs.Stamps.{moment}
-use Rattle.numbers.specs.declared.stamp.Stamp.{Stamp}
+use lib.IntN.{ℤ, pos, negsuc, _+ℤ_}
+use Rattle.numbers.specs.Rounding.{roundedOf}
 use Rattle.rules_exchange.specs.declared.Exchange.{Exchange}
-use Rattle.rules_exchange.specs.declared.Answer.the-variants.{Neg, Long}
-use Rattle.rules_exchange.specs.Median.{below, middling, firstMiddling}
-use Rattle.rules_exchange.specs.Delays.{pathBy, usedBy, filtered}
-use Rattle.rules_exchange.specs.Halves.{freshSync, freshRequest, noStamp}
-use Rattle.rules_exchange.specs.Measure.{forwardOf, sumOf}
-use Rattle.rules_exchange.specs.Events.{freshExchange, answers, accepted, judged, measuredAs, finished}
+use Rattle.rules_exchange.specs.declared.Answer.{Answer}
+use Rattle.rules_exchange.specs.declared.Answer.the-variants.{Says}
+use Rattle.rules_exchange.specs.declared.said.Said.the-variants.{Neg, Long}
+use Rattle.rules_delays.specs.Median.{countBelow, middling, firstMiddling}
+use Rattle.rules_delays.specs.Delays.{pathBy, usedBy, filtered}
+use Rattle.rules_measure.specs.Measure.{sumOf}
+use Rattle.rules_exchange.specs.Events.{freshExchange, accepted, judged, measuredWith, finished}
 
--- forward is t2 - t1 less the two corrections, each cut: half a nanosecond below 0 is cut to -1, half above it to 0
-abbrev at : ℕ → ℕ → Stamp
-at s n = record { seconds = s; nanoseconds = n }
+-- one measurement, by its forward and its back
+pub record Measurement : Type 0 where
+  pub forward : ℤ
+  pub back : ℤ
 
-forward : forwardOf (at 9 999999000) (at 10 9500) (negsuc 32767) (pos 32768) ≡ pos 10501
-unfolding forwardOf moment floorZ
-forward = refl
+abbrev pub of : ℤ → ℤ → Measurement
+of forward back = record { forward = forward; back = back }
 
--- the exchange after one, two and three accepted delays
-abbrev with-delays : List ℕ → ℕ → ℕ → Exchange
-with-delays five count used =
-    record {
-      sync = freshSync;
-      request = freshRequest;
-      last = record { taken = false; stamp = noStamp };
-      delays = record { five = five; count = count; used = used };
-      huge = 0;
-      path = 0;
-    }
+-- the answers to measurements, one after another
+abbrev pub answersTo : Exchange → List Measurement → List Answer
+answersTo x [] = []
+answersTo x (m ∷ l) = finished x (m .forward) (m .forward +ℤ m .back) .answer ∷ answersTo (finished x (m .forward) (m .forward +ℤ m .back) .exchange) l
 
--- a finished measurement from a fresh exchange, by forward and the sum of forward and back
-P1 : finished freshExchange (pos 10500) (pos 20500) ≡ answers (measuredAs 10250 10250 (pos 250)) (with-delays (10250 ∷ 0 ∷ 0 ∷ 0 ∷ 0 ∷ []) 1 10250)
-unfolding sumOf roundN judged accepted pathBy usedBy filtered
-P1 = refl
+pub p1 : answersTo freshExchange (of (pos 10500) (pos 10000) ∷ []) ≡ Says (measuredWith 10250 10250 (pos 250)) ∷ []
+unfolding sumOf roundedOf judged accepted pathBy usedBy filtered
+p1 = refl
 
-P2 : finished freshExchange (pos 10501) (pos 20501) .answer ≡ measuredAs 10250 10250 (pos 251)
-unfolding sumOf roundN judged accepted pathBy usedBy filtered
-P2 = refl
+pub p2 : answersTo freshExchange (of (pos 10501) (pos 10000) ∷ []) ≡ Says (measuredWith 10250 10250 (pos 251)) ∷ []
+unfolding sumOf roundedOf judged accepted pathBy usedBy filtered
+p2 = refl
 
-P3 : finished freshExchange (pos 10503) (pos 20503) .answer ≡ measuredAs 10252 10252 (pos 251)
-unfolding sumOf roundN judged accepted pathBy usedBy filtered
-P3 = refl
+pub p3 : answersTo freshExchange (of (pos 10503) (pos 10000) ∷ []) ≡ Says (measuredWith 10252 10252 (pos 251)) ∷ []
+unfolding sumOf roundedOf judged accepted pathBy usedBy filtered
+p3 = refl
 
-P4 : finished freshExchange (pos 10000) (negsuc 0) ≡ answers Neg freshExchange
+pub p4 : answersTo freshExchange (of (pos 10000) (negsuc 10000) ∷ []) ≡ Says Neg ∷ []
 unfolding sumOf
-P4 = refl
+p4 = refl
 
-P5 : finished freshExchange (pos 9999999) (pos 19999998) .answer ≡ measuredAs 9999999 9999999 (pos 0)
-unfolding sumOf roundN judged accepted pathBy usedBy filtered
-P5 = refl
+pub p5 : answersTo freshExchange (of (pos 9999999) (pos 9999999) ∷ []) ≡ Says (measuredWith 9999999 9999999 (pos 0)) ∷ []
+unfolding sumOf roundedOf judged accepted pathBy usedBy filtered
+p5 = refl
 
-P5-long : finished freshExchange (pos 9999999) (pos 19999999) ≡ answers Long freshExchange
+pub p5-long : answersTo freshExchange (of (pos 9999999) (pos 10000000) ∷ []) ≡ Says Long ∷ []
 unfolding sumOf
-P5-long = refl
+p5-long = refl
 
-P6-first : finished freshExchange (pos 10000) (pos 20000) ≡ answers (measuredAs 10000 10000 (pos 0)) (with-delays (10000 ∷ 0 ∷ 0 ∷ 0 ∷ 0 ∷ []) 1 10000)
-unfolding sumOf roundN judged accepted pathBy usedBy filtered
-P6-first = refl
+pub p6 : answersTo freshExchange (of (pos 10000) (pos 10000) ∷ of (pos 15000) (pos 15000) ∷ of (pos 15000) (pos 15000) ∷ [])
+    ≡ Says (measuredWith 10000 10000 (pos 0)) ∷ Says (measuredWith 15000 10000 (pos 5000)) ∷ Says (measuredWith 15000 15000 (pos 0)) ∷ []
+unfolding sumOf roundedOf judged accepted pathBy usedBy filtered countBelow middling firstMiddling
+p6 = refl
 
-P6-second : finished (with-delays (10000 ∷ 0 ∷ 0 ∷ 0 ∷ 0 ∷ []) 1 10000) (pos 15000) (pos 30000)
-    ≡ answers (measuredAs 15000 10000 (pos 5000)) (with-delays (15000 ∷ 10000 ∷ 0 ∷ 0 ∷ 0 ∷ []) 2 10000)
-unfolding sumOf roundN judged accepted pathBy usedBy filtered below middling firstMiddling
-P6-second = refl
-
-P6-third : finished (with-delays (15000 ∷ 10000 ∷ 0 ∷ 0 ∷ 0 ∷ []) 2 10000) (pos 15000) (pos 30000)
-    ≡ answers (measuredAs 15000 15000 (pos 0)) (with-delays (15000 ∷ 15000 ∷ 10000 ∷ 0 ∷ 0 ∷ []) 3 15000)
-unfolding sumOf roundN judged accepted pathBy usedBy filtered below middling firstMiddling
-P6-third = refl
+-- an offset of 100,000,000 is no STEP
+pub p9-no-step : answersTo freshExchange (of (pos 100010000) (negsuc 99989999) ∷ []) ≡ Says (measuredWith 10000 10000 (pos 100000000)) ∷ []
+unfolding sumOf roundedOf judged accepted pathBy usedBy filtered
+p9-no-step = refl

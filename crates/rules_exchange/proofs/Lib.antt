@@ -1,11 +1,6 @@
 -- Laws of the exchange. Promises says what holds of every event in every state; the others lead there, or serve a proof of the code.
-pub mod Tests
-pub mod Median
-pub mod Newest
-pub mod Exact
 pub mod Judged
 pub mod Told
 pub mod Every
-pub mod Middle
 pub mod Promises
 pub mod Examples

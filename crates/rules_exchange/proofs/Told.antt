@@ -1,35 +1,69 @@
--- The order of the refusals, and the row of the table that the unit's memory leads to.
+-- The refusals, and the row of the table that the unit's memory leads to.
 use mathlib.Core.Path.{_≡_, refl, sym, ap, _∙_}
-use mathlib.Core.Bool.{Bool, true, false}
+use mathlib.Core.Bool.{Bool, true, false, cond}
 use Prim.Native.Nat.{ℕ}
 use lib.Dec.{eqb}
 use lib.IntN.{ℤ, _+ℤ_}
+use Rattle.numbers.specs.Grounds.{firstOf}
 use Rattle.numbers.specs.declared.stamp.Stamp.{Stamp}
-use Rattle.numbers.specs.declared.refusal.Refusal.the-variants.{Field, Correction, Unmatched}
+use Rattle.numbers.specs.declared.refusal.Refusal.{Refusal}
+use Rattle.numbers.specs.declared.refusal.Refusal.the-variants.{Correction, Unmatched}
+use Rattle.numbers.specs.declared.ruling.Ruling.the-variants.{Clear, Barred}
 use Rattle.wire_layout.specs.declared.message.Port.{Port}
 use Rattle.rules_exchange.specs.declared.halves.Sync.{Sync}
 use Rattle.rules_exchange.specs.declared.halves.Request.{Request}
 use Rattle.rules_exchange.specs.declared.Exchange.{Exchange}
-use Rattle.rules_exchange.specs.declared.Answer.the-variants.{Paired, Stamped}
-use Rattle.rules_exchange.specs.Halves.{SyncHalf, noSync, awaits, knows, RequestHalf, noRequest, asked, stamped, syncHalf, requestHalf, waitsOf, waits, knowsOf, pendsOf, pends, givenOf}
-use Rattle.rules_exchange.specs.Measure.{forwardOf, backOf}
-use Rattle.rules_exchange.specs.Table.{Event, followUp, sent, delayResp, Row, unmatched, syncIs, requestIs, measures, table, samePort, partners, partnersOf}
-use Rattle.rules_exchange.proofs.Tests.{never}
-use Rattle.rules_exchange.specs.Events.{told, stamp, local, fieldOf, fieldIn, correctionOf, correctionIn, answers, refused, takes, finished, follows}
+use Rattle.rules_exchange.specs.declared.said.Said.the-variants.{Held, Paired, Asked, Stamped}
+use Rattle.rules_exchange.specs.Halves.{SyncHalf, noSync, awaits, knows, RequestHalf, noRequest, asked, stamped, syncHalf, requestHalf, heard}
+use Rattle.rules_exchange.specs.Inner.{syncWaitsFor, waits, syncComplete, requestWaitsFor, pends, requestComplete, partners, partnersOf}
+use Rattle.rules_measure.specs.Measure.{forwardOf, backOf}
+use Rattle.rules_exchange.specs.Table.{Event, sync, followUp, requested, sent, delayResp, Row, unmatched, syncIs, requestIs, measures, rowBy, samePort}
+use Rattle.rules_exchange.specs.Events.{told, tellsOf, stamp, local, correctionOf, correctionIn, rowOf, unmatchedOf, isUnmatched, groundsOf, unlessBarred, saidWith, refused, withSync, withRequest, stampTaken, finished, follows}
+use Rattle.rules_delays.proofs.Tests.{never}
 
--- ---- 5, 19, and then the row
+-- ---- a refusal that is due, or what the row says
 module _ (x : Exchange) (e : Event) where
-  pub told-field : fieldIn (local e) ≡ true → told x e ≡ refused Field x
+  pub told-barred : (n : Refusal) → firstOf (groundsOf x e) ≡ Barred n → told x e ≡ refused n x
   unfolding told
-  told-field h = rw h
+  told-barred n h = rw h
 
-  pub told-correction : fieldIn (local e) ≡ false → correctionIn e ≡ true → told x e ≡ refused Correction x
+  pub told-clear : firstOf (groundsOf x e) ≡ Clear → told x e ≡ tellsOf x e
   unfolding told
-  told-correction h j = rw (h, j)
+  told-clear h = rw h
 
-  pub told-row : (r : Row) → fieldIn (local e) ≡ false → correctionIn e ≡ false → table e (syncHalf (x .sync)) (requestHalf (x .request)) ≡ r → told x e ≡ follows x (local e) r
-  unfolding told
-  told-row r h j k = rw (h, j, k)
+  -- CORRECTION comes first; UNMATCHED is what the row says by itself
+  pub told-is : told x e ≡ cond (correctionIn e) (refused Correction x) (tellsOf x e)
+  unfolding told firstOf tellsOf
+  told-is = go (correctionIn e) (rowOf x e)
+    where
+      go : (b : Bool) (r : Row)
+          → unlessBarred x (cond b (Barred Correction) (cond (isUnmatched r) (Barred Unmatched) Clear)) (follows x (local e) r)
+          ≡ cond b (refused Correction x) (follows x (local e) r)
+      go true r = refl
+      go false unmatched = refl
+      go false (syncIs s h) = refl
+      go false (requestIs s h) = refl
+      go false (measures forward back) = refl
+
+  pub told-correction : correctionIn e ≡ true → told x e ≡ refused Correction x
+  told-correction h = told-is ∙ rw h
+
+  pub told-row : (r : Row) → correctionIn e ≡ false → rowOf x e ≡ r → told x e ≡ follows x (local e) r
+  unfolding tellsOf
+  told-row r h k = told-is ∙ rw (h, k)
+
+  pub told-unmatched : correctionIn e ≡ false → unmatchedOf x e ≡ true → told x e ≡ refused Unmatched x
+  unfolding tellsOf
+  told-unmatched h k = told-is ∙ rw h (go (rowOf x e) k)
+    where
+      go : (r : Row) → isUnmatched r ≡ true → follows x (local e) r ≡ refused Unmatched x
+      go unmatched k = refl
+      go (syncIs s h) k = absurd (never k)
+      go (requestIs s h) k = absurd (never k)
+      go (measures forward back) k = absurd (never k)
+
+  pub told-tells : correctionIn e ≡ false → told x e ≡ tellsOf x e
+  told-tells h = told-is ∙ rw h
 
 -- ---- the states of the halves, from the memory
 pub record Waits (s : Sync) (n : ℕ) : Type 0 where
@@ -37,7 +71,7 @@ pub record Waits (s : Sync) (n : ℕ) : Type 0 where
   pub half : syncHalf s ≡ awaits (s .sequence) (s .t2) (s .correction)
   pub same : eqb (s .sequence) n ≡ true
 
-pub waits-is : (s : Sync) (n : ℕ) → waitsOf s n ≡ true → Waits s n
+pub waits-is : (s : Sync) (n : ℕ) → syncWaitsFor s n ≡ true → Waits s n
 unfolding syncHalf
 waits-is s n h = go (s .held) refl (s .known) refl
   where
@@ -46,7 +80,7 @@ waits-is s n h = go (s .held) refl (s .known) refl
     go true p true q = absurd (never (rw (p, q) at h))
     go false p b q = absurd (never (rw p at h))
 
-pub knows-is : (s : Sync) → knowsOf s ≡ true → syncHalf s ≡ knows (s .sequence) (s .t1) (s .t2) (s .correction) (s .follow)
+pub knows-is : (s : Sync) → syncComplete s ≡ true → syncHalf s ≡ knows (s .sequence) (s .t1) (s .t2) (s .correction) (s .follow)
 unfolding syncHalf
 knows-is s h = go (s .held) refl (s .known) refl
   where
@@ -60,7 +94,7 @@ pub record Pends (r : Request) (n : ℕ) : Type 0 where
   pub half : requestHalf r ≡ asked (r .sequence)
   pub same : eqb (r .sequence) n ≡ true
 
-pub pends-is : (r : Request) (n : ℕ) → pendsOf r n ≡ true → Pends r n
+pub pends-is : (r : Request) (n : ℕ) → requestWaitsFor r n ≡ true → Pends r n
 unfolding requestHalf
 pends-is r n h = go (r .pending) refl (r .given) refl
   where
@@ -73,7 +107,7 @@ pub record Given (r : Request) (n : ℕ) : Type 0 where
   pub half : requestHalf r ≡ stamped (r .sequence) (r .t3)
   pub same : eqb (r .sequence) n ≡ true
 
-pub given-is : (r : Request) (n : ℕ) → givenOf r n ≡ true → Given r n
+pub given-is : (r : Request) (n : ℕ) → requestComplete r n ≡ true → Given r n
 unfolding requestHalf
 given-is r n h = go (r .pending) refl (r .given) refl
   where
@@ -84,56 +118,66 @@ given-is r n h = go (r .pending) refl (r .given) refl
 
 -- ---- the rows that need a partner
 module _ (s : Sync) (r : RequestHalf) (n : ℕ) (c : ℤ) (t : Stamp) where
-  pub follow-row : waitsOf s n ≡ true → table (followUp n c t) (syncHalf s) r ≡ syncIs Paired (knows (s .sequence) t (s .t2) (s .correction) c)
-  unfolding table
+  pub follow-row : syncWaitsFor s n ≡ true → rowBy (followUp n c t) (syncHalf s) r ≡ syncIs Paired (knows (s .sequence) t (s .t2) (s .correction) c)
+  unfolding rowBy
   follow-row h = let w = waits-is s n h in rw (w .half, w .same)
 
-pub follow-none : (s : SyncHalf) (r : RequestHalf) (n : ℕ) (c : ℤ) (t : Stamp) → waits s n ≡ false → table (followUp n c t) s r ≡ unmatched
-unfolding table
+pub follow-none : (s : SyncHalf) (r : RequestHalf) (n : ℕ) (c : ℤ) (t : Stamp) → waits s n ≡ false → rowBy (followUp n c t) s r ≡ unmatched
+unfolding rowBy
 follow-none noSync r n c t h = refl
 follow-none (awaits m t2 d) r n c t h = rw h
 follow-none (knows m t1 t2 d f) r n c t h = refl
 
-pub sent-row : (s : SyncHalf) (r : Request) (n : ℕ) (t : Stamp) → pendsOf r n ≡ true → table (sent n t) s (requestHalf r) ≡ requestIs Stamped (stamped (r .sequence) t)
-unfolding table
+pub sent-row : (s : SyncHalf) (r : Request) (n : ℕ) (t : Stamp) → requestWaitsFor r n ≡ true → rowBy (sent n t) s (requestHalf r) ≡ requestIs Stamped (stamped (r .sequence) t)
+unfolding rowBy
 sent-row s r n t h = let w = pends-is r n h in rw (w .half, w .same)
 
-pub sent-none : (s : SyncHalf) (r : RequestHalf) (n : ℕ) (t : Stamp) → pends r n ≡ false → table (sent n t) s r ≡ unmatched
-unfolding table
+pub sent-none : (s : SyncHalf) (r : RequestHalf) (n : ℕ) (t : Stamp) → pends r n ≡ false → rowBy (sent n t) s r ≡ unmatched
+unfolding rowBy
 sent-none s noRequest n t h = refl
 sent-none s (asked m) n t h = rw h
 sent-none s (stamped m u) n t h = refl
 
 -- what a Delay_Resp needs, one by one
 pub record Partners (s : Sync) (r : Request) (n : ℕ) (p own : Port) : Type 0 where
-  pub sync : knowsOf s ≡ true
-  pub request : givenOf r n ≡ true
+  pub sync : syncComplete s ≡ true
+  pub request : requestComplete r n ≡ true
   pub port : samePort p own ≡ true
 
 pub partners-are : (s : Sync) (r : Request) (n : ℕ) (p own : Port) → partnersOf s r n p own ≡ true → Partners s r n p own
-partners-are s r n p own h = go (knowsOf s) refl (givenOf r n) refl
+partners-are s r n p own h = go (syncComplete s) refl (requestComplete r n) refl
   where
-    go : (a : Bool) → knowsOf s ≡ a → (b : Bool) → givenOf r n ≡ b → Partners s r n p own
+    go : (a : Bool) → syncComplete s ≡ a → (b : Bool) → requestComplete r n ≡ b → Partners s r n p own
     go true e true f = record { sync = e; request = f; port = rw (e, f) at h }
     go true e false f = absurd (never (rw (e, f) at h))
     go false e b f = absurd (never (rw e at h))
 
 module _ (n : ℕ) (c : ℤ) (t : Stamp) (p own : Port) where
   pub resp-row : (s : Sync) (r : Request) → partnersOf s r n p own ≡ true
-      → table (delayResp n c t p own) (syncHalf s) (requestHalf r) ≡ measures (forwardOf (s .t1) (s .t2) (s .correction) (s .follow)) (backOf (r .t3) t c)
-  unfolding table
+      → rowBy (delayResp n c t p own) (syncHalf s) (requestHalf r) ≡ measures (forwardOf (s .t1) (s .t2) (s .correction) (s .follow)) (backOf (r .t3) t c)
+  unfolding rowBy
   resp-row s r h =
       let w = partners-are s r n p own h in
       let g = given-is r n (w .request) in
       rw (knows-is s (w .sync), g .half, g .same, w .port)
 
-  pub resp-none : (s : SyncHalf) (r : RequestHalf) → partners s r n p own ≡ false → table (delayResp n c t p own) s r ≡ unmatched
-  unfolding table
+  pub resp-none : (s : SyncHalf) (r : RequestHalf) → partners s r n p own ≡ false → rowBy (delayResp n c t p own) s r ≡ unmatched
+  unfolding rowBy
   resp-none noSync r h = refl
   resp-none (awaits k t2 d) r h = refl
   resp-none (knows k t1 t2 d f) noRequest h = refl
   resp-none (knows k t1 t2 d f) (asked m) h = refl
   resp-none (knows k t1 t2 d f) (stamped m t3) h = rw h
+
+-- ---- a Sync and a request, which need no partner
+pub told-sync : (x : Exchange) (two : Bool) (n : ℕ) (c : ℤ) (t1 t2 : Stamp) → correctionOf c ≡ false
+    → told x (sync two n c t1 t2) ≡ stampTaken (stamp t2) Held x (withSync x (heard two n c t1 t2))
+unfolding rowBy
+told-sync x two n c t1 t2 h = told-row x (sync two n c t1 t2) (syncIs Held (heard two n c t1 t2)) h refl
+
+pub told-requested : (x : Exchange) (n : ℕ) → told x (requested n) ≡ saidWith (Asked n) (withRequest x (asked n))
+unfolding rowBy stampTaken
+told-requested x n = told-row x (requested n) (requestIs (Asked n) (asked n)) refl refl
 
 -- ---- the half that goes on, as the code writes it
 module _ (x : Exchange) (n : ℕ) where
@@ -148,11 +192,11 @@ module _ (x : Exchange) (n : ℕ) where
         path = x .path;
       }
 
-  pub told-paired : (c : ℤ) (t1 : Stamp) → correctionOf c ≡ false → waitsOf (x .sync) n ≡ true → answers Paired (paired (x .sync .held) c t1) ≡ told x (followUp n c t1)
-  unfolding takes
+  pub told-paired : (c : ℤ) (t1 : Stamp) → correctionOf c ≡ false → syncWaitsFor (x .sync) n ≡ true → saidWith Paired (paired (x .sync .held) c t1) ≡ told x (followUp n c t1)
+  unfolding stampTaken
   told-paired c t1 h k =
-      ap (λ (b : Bool). answers Paired (paired b c t1)) (waits-is (x .sync) n k .held)
-      ∙ sym (told-row x (followUp n c t1) _ refl h (follow-row (x .sync) (requestHalf (x .request)) n c t1 k))
+      ap (λ (b : Bool). saidWith Paired (paired b c t1)) (waits-is (x .sync) n k .held)
+      ∙ sym (told-row x (followUp n c t1) _ h (follow-row (x .sync) (requestHalf (x .request)) n c t1 k))
 
   abbrev given : Bool → Stamp → Exchange
   given p t3 =
@@ -165,10 +209,10 @@ module _ (x : Exchange) (n : ℕ) where
         path = x .path;
       }
 
-  pub told-stamped : (t3 : Stamp) → fieldOf t3 ≡ false → pendsOf (x .request) n ≡ true → takes (stamp t3) Stamped (given (x .request .pending) t3) ≡ told x (sent n t3)
-  told-stamped t3 h k =
-      ap (λ (b : Bool). takes (stamp t3) Stamped (given b t3)) (pends-is (x .request) n k .pending)
-      ∙ sym (told-row x (sent n t3) _ h refl (sent-row (syncHalf (x .sync)) (x .request) n t3 k))
+  pub told-stamped : (t3 : Stamp) → requestWaitsFor (x .request) n ≡ true → stampTaken (stamp t3) Stamped x (given (x .request .pending) t3) ≡ told x (sent n t3)
+  told-stamped t3 k =
+      ap (λ (b : Bool). stampTaken (stamp t3) Stamped x (given b t3)) (pends-is (x .request) n k .pending)
+      ∙ sym (told-row x (sent n t3) _ refl (sent-row (syncHalf (x .sync)) (x .request) n t3 k))
 
 -- ---- a Delay_Resp with all that it needs, and one without
 module _ (x : Exchange) (n : ℕ) (c : ℤ) (t4 : Stamp) (p own : Port) (h : correctionOf c ≡ false) where
@@ -176,7 +220,7 @@ module _ (x : Exchange) (n : ℕ) (c : ℤ) (t4 : Stamp) (p own : Port) (h : cor
       → told x (delayResp n c t4 p own)
       ≡ finished x (forwardOf (x .sync .t1) (x .sync .t2) (x .sync .correction) (x .sync .follow))
       (forwardOf (x .sync .t1) (x .sync .t2) (x .sync .correction) (x .sync .follow) +ℤ backOf (x .request .t3) t4 c)
-  told-finished k = told-row x (delayResp n c t4 p own) _ refl h (resp-row n c t4 p own (x .sync) (x .request) k)
+  told-finished k = told-row x (delayResp n c t4 p own) _ h (resp-row n c t4 p own (x .sync) (x .request) k)
 
   pub told-stranger : partnersOf (x .sync) (x .request) n p own ≡ false → told x (delayResp n c t4 p own) ≡ refused Unmatched x
-  told-stranger k = told-row x (delayResp n c t4 p own) unmatched refl h (resp-none n c t4 p own (syncHalf (x .sync)) (requestHalf (x .request)) k)
+  told-stranger k = told-row x (delayResp n c t4 p own) unmatched h (resp-none n c t4 p own (syncHalf (x .sync)) (requestHalf (x .request)) k)

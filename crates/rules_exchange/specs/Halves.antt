@@ -1,7 +1,6 @@
--- The two halves: which states each can be in, and how the unit's memory holds them.
+-- The two halves: which states each can be in, and how the unit's memory holds them (rule 7.1).
 use mathlib.Core.Bool.{Bool, true, false, cond}
 use Prim.Native.Nat.{ℕ}
-use lib.Dec.{eqb}
 use lib.IntN.{ℤ, pos}
 use Rattle.numbers.specs.declared.stamp.Stamp.{Stamp}
 use Rattle.rules_exchange.specs.declared.halves.Sync.{Sync}
@@ -18,6 +17,11 @@ pub data RequestHalf : Type 0 where
   noRequest : RequestHalf
   asked : (sequence : ℕ) → RequestHalf
   stamped : (sequence : ℕ) (t3 : Stamp) → RequestHalf
+
+-- the half that a Sync brings: a two-step one awaits t1, and what it has in t1's place is not kept (rule 7.3)
+abbrev pub heard : (twoStep : Bool) (sequence : ℕ) (correction : ℤ) (t1 t2 : Stamp) → SyncHalf
+heard true n c t1 t2 = awaits n t2 c
+heard false n c t1 t2 = knows n t1 t2 c (pos 0)
 
 -- read from the memory
 unfoldable pub syncHalf : Sync → SyncHalf
@@ -48,39 +52,3 @@ freshSync = asSync noSync
 
 abbrev pub freshRequest : Request
 freshRequest = asRequest noRequest
-
--- t1 is awaited for this sequenceId
-abbrev pub waits : SyncHalf → ℕ → Bool
-waits noSync n = false
-waits (awaits m t2 c) n = eqb m n
-waits (knows m t1 t2 c f) n = false
-
-abbrev pub waitsOf : Sync → ℕ → Bool
-waitsOf s n = waits (syncHalf s) n
-
--- t1 and t2 are there
-abbrev pub ready : SyncHalf → Bool
-ready noSync = false
-ready (awaits m t2 c) = false
-ready (knows m t1 t2 c f) = true
-
-abbrev pub knowsOf : Sync → Bool
-knowsOf s = ready (syncHalf s)
-
--- t3 is awaited for this sequenceId
-abbrev pub pends : RequestHalf → ℕ → Bool
-pends noRequest n = false
-pends (asked m) n = eqb m n
-pends (stamped m t3) n = false
-
-abbrev pub pendsOf : Request → ℕ → Bool
-pendsOf r n = pends (requestHalf r) n
-
--- t3 is there, for this sequenceId
-abbrev pub answerable : RequestHalf → ℕ → Bool
-answerable noRequest n = false
-answerable (asked m) n = false
-answerable (stamped m t3) n = eqb m n
-
-abbrev pub givenOf : Request → ℕ → Bool
-givenOf r n = answerable (requestHalf r) n

@@ -1,7 +1,5 @@
-pub mod Median
-pub mod Delays
 pub mod Halves
-pub mod Measure
+pub mod Said
 pub mod Table
 pub mod Events
-pub mod Answers
+pub mod Inner

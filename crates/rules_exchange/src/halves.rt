@@ -1,7 +1,11 @@
 // The two halves of a measurement: the Sync that is held and the request that is pending.
 use numbers::stamp::Stamp;
+use rules_measure::Times;
+use rules_measure::measured;
 ghost use mathlib.Core.Path.{_≡_};
-ghost use Rattle.rules_exchange.specs.Halves.{freshSync, freshRequest, waitsOf, knowsOf, pendsOf, givenOf};
+ghost use Rattle.rules_exchange.specs.Halves.{freshSync, freshRequest, asSync, heard};
+ghost use Rattle.rules_measure.specs.Measure.{timesOf};
+ghost use Rattle.rules_exchange.specs.Inner.{syncWaitsFor, syncComplete, requestWaitsFor, requestComplete};
 
 // The Sync held, if any. Corrections stay uncut, in 1/65,536 ns.
 #[repr(C)]
@@ -44,9 +48,40 @@ impl Sync {
         }
     }
 
+    // A Sync that came, its correction uncut. A two-step one has no t1 yet.
+    pub(crate) fn heard(
+        two_step: bool,
+        sequence: u16,
+        correction: i64,
+        t1: Stamp,
+        t2: Stamp,
+    ) -> Sync
+        ensures { λ r. ⌜ r ≡ asSync (heard «two_step» sequence correction t1 t2) ⌝ }
+    {
+        let mut sync = Sync {
+            held: true,
+            known: true,
+            sequence,
+            t1,
+            t2,
+            correction,
+            follow: 0,
+        };
+        if two_step {
+            let none = Stamp {
+                seconds: 0,
+                nanoseconds: 0,
+            };
+            sync.known = false;
+            sync.t1 = none;
+            return sync;
+        }
+        sync
+    }
+
     // A Follow_Up of this sequenceId gives t1.
-    pub fn waits_for(self, sequence: u16) -> bool
-        ensures { λ r. ⌜ r ≡ waitsOf self sequence ⌝ }
+    pub(crate) fn waits_for(self, sequence: u16) -> bool
+        ensures { λ r. ⌜ r ≡ syncWaitsFor self sequence ⌝ }
     {
         if self.held {
             if self.known {
@@ -60,8 +95,8 @@ impl Sync {
     }
 
     // t1 and t2 are there.
-    pub fn complete(self) -> bool
-        ensures { λ r. ⌜ r ≡ knowsOf self ⌝ }
+    pub(crate) fn complete(self) -> bool
+        ensures { λ r. ⌜ r ≡ syncComplete self ⌝ }
     {
         if self.held { self.known } else { false }
     }
@@ -85,8 +120,8 @@ impl Request {
     }
 
     // t3 is given for this sequenceId.
-    pub fn waits_for(self, sequence: u16) -> bool
-        ensures { λ r. ⌜ r ≡ pendsOf self sequence ⌝ }
+    pub(crate) fn waits_for(self, sequence: u16) -> bool
+        ensures { λ r. ⌜ r ≡ requestWaitsFor self sequence ⌝ }
     {
         if self.pending {
             if self.given {
@@ -100,8 +135,8 @@ impl Request {
     }
 
     // t3 is there, and a Delay_Resp of this sequenceId answers.
-    pub fn complete(self, sequence: u16) -> bool
-        ensures { λ r. ⌜ r ≡ givenOf self sequence ⌝ }
+    pub(crate) fn complete(self, sequence: u16) -> bool
+        ensures { λ r. ⌜ r ≡ requestComplete self sequence ⌝ }
     {
         if self.pending {
             if self.given {
@@ -113,4 +148,19 @@ impl Request {
             false
         }
     }
+}
+
+// What the two halves and the Delay_Resp's t4 and correction tell.
+pub(crate) fn times(sync: Sync, request: Request, t4: Stamp, correction: i64) -> Times
+    ensures { λ r. ⌜ r ≡ timesOf (sync .t1) (sync .t2) (sync .correction) (sync .follow) (request .t3) t4 correction ⌝ }
+{
+    measured(
+        sync.t1,
+        sync.t2,
+        sync.correction,
+        sync.follow,
+        request.t3,
+        t4,
+        correction,
+    )
 }

@@ -1,28 +1,29 @@
-// The exchange: one method for each event, by the table of specs/Table.antt. Document 01, "The exchange".
-// An answer that wipes (Back, PathWipes, Step) comes with the fresh exchange, so that nothing stays behind.
-pub mod delays;
+// The exchange: one method for each event, by the table of specs/Table.antt (rules 7.1 to 7.24).
+// An answer that wipes (Back, PathWiped, Step) says so and leaves the emptying to the caller: a wipe empties more than the exchange.
 pub mod halves;
-pub mod measure;
 pub mod refusals;
+pub mod said;
 
-use delays::Delays;
 use halves::Request;
 use halves::Sync;
-use measure::Sum;
-use measure::huge;
-use measure::judge_sum;
-use measure::measured;
-use measure::steps;
+use halves::times;
 use numbers::refusal::Refusal;
 use numbers::stamp::Stamp;
 use numbers::stamp::below;
 use numbers::units::Nanoseconds;
+use rules_delays::Delays;
+use rules_measure::Sum;
+use rules_measure::Times;
+use rules_measure::huge;
+use rules_measure::is_step;
+use rules_measure::judge_sum;
+use said::Said;
 use wire_layout::message::Port;
 ghost use mathlib.Core.Path.{_≡_};
 ghost use Prim.Native.Nat.{_^_};
 ghost use Rattle.numbers.specs.Integers.{Within};
-ghost use Rattle.rules_exchange.specs.Table.{oneStep, twoStep, followUp, requested, sent, delayResp};
-ghost use Rattle.rules_exchange.specs.Events.{freshExchange, answers, refused, withRows, stamp, backward, takes, hugeAgain, pathAgain, accepted, judged, finished, told};
+ghost use Rattle.rules_exchange.specs.Table.{sync, followUp, requested, sent, delayResp};
+ghost use Rattle.rules_exchange.specs.Events.{freshExchange, saidWith, refused, withRows, stamp, isAbove, stampTaken, hugeAgain, pathAgain, accepted, judged, finished, told};
 
 // The last local stamp: the last t2 or t3 taken since the wipe.
 #[repr(C)]
@@ -41,7 +42,7 @@ pub struct Exchange {
     pub path: u8, // and PATH
 }
 
-// An accepted measurement.
+// An accepted measurement, in ns.
 pub struct Accepted {
     pub delay: Nanoseconds,
     pub used: Nanoseconds,
@@ -50,19 +51,7 @@ pub struct Accepted {
 
 pub enum Answer {
     Refused(Refusal),
-    Held, // the Sync is held
-    Paired, // the Follow_Up gave t1
-    Asked, // the request is pending
-    Stamped, // t3 is given
-    Back, // a local stamp below the last one: wipes
-    Neg, // sum below 0
-    Long, // sum over 19,999,998
-    Huge, // forward - delay at or beyond 1,000,000,000
-    HugeFaulty, // the third in a row: the unit becomes faulty
-    Path, // delay 1,000,000 or more from the last accepted
-    PathWipes, // the third in a row: wipes
-    Step(Nanoseconds), // offset beyond 100,000,000: wipes
-    Measured(Accepted), // accepted
+    Says(Said),
 }
 
 pub struct Answered {
@@ -73,7 +62,7 @@ pub struct Answered {
 impl Last {
     // BACK: t is below the last local stamp.
     pub fn is_above(self, t: Stamp) -> bool
-        ensures { λ r. ⌜ r ≡ backward self t ⌝ }
+        ensures { λ r. ⌜ r ≡ isAbove self t ⌝ }
     {
         if self.taken {
             below(t, self.stamp)
@@ -114,45 +103,42 @@ impl Exchange {
         }
     }
 
-    // The stamp is taken, or it is BACK.
-    fn take_stamp(mut self, t: Stamp, answer: Answer) -> Answered
-        ensures { λ r. ⌜ r ≡ takes (stamp t) answer self ⌝ }
+    fn say(self, said: Said) -> Answered
+        ensures { λ r. ⌜ r ≡ saidWith said self ⌝ }
     {
-        let last = self.last;
-        if last.is_above(t) {
-            return Answered {
-                answer: Answer::Back,
-                exchange: Exchange::fresh(),
-            };
-        }
-        let next = Last {
-            taken: true,
-            stamp: t,
-        };
-        self.last = next;
         Answered {
-            answer,
+            answer: Answer::Says(said),
             exchange: self,
         }
     }
 
-    // One HUGE more: the third in a row makes the unit faulty.
+    // The stamp is taken, and `next` is what the exchange becomes by it; or it is BACK, and nothing is taken.
+    fn take_stamp(self, mut next: Exchange, t: Stamp, said: Said) -> Answered
+        ensures { λ r. ⌜ r ≡ stampTaken (stamp t) said self next ⌝ }
+    {
+        let last = self.last;
+        if last.is_above(t) {
+            return self.say(Said::Back);
+        }
+        let newest = Last {
+            taken: true,
+            stamp: t,
+        };
+        next.last = newest;
+        next.say(said)
+    }
+
+    // One HUGE more: the unit is faulty after three in a row (rule 7.16).
     fn huge_again(mut self) -> Answered
         ensures { λ r. ⌜ r ≡ hugeAgain self ⌝ }
     {
         self.path = 0;
         if self.huge < 2 {
             self.huge = self.huge + 1;
-            return Answered {
-                answer: Answer::Huge,
-                exchange: self,
-            };
+            return self.say(Said::Huge);
         }
         self.huge = 3;
-        Answered {
-            answer: Answer::HugeFaulty,
-            exchange: self,
-        }
+        self.say(Said::HugeFaulty)
     }
 
     // One PATH more: the third in a row wipes.
@@ -162,43 +148,32 @@ impl Exchange {
         self.huge = 0;
         if self.path < 2 {
             self.path = self.path + 1;
-            return Answered {
-                answer: Answer::Path,
-                exchange: self,
-            };
+            return self.say(Said::Path);
         }
-        Answered {
-            answer: Answer::PathWipes,
-            exchange: Exchange::fresh(),
-        }
+        self.path = 3;
+        self.say(Said::PathWiped)
     }
 
     // NEG or LONG: both rows are broken.
-    fn break_rows(mut self, answer: Answer) -> Answered
-        ensures { λ r. ⌜ r ≡ answers answer (withRows self 0 0) ⌝ }
+    fn break_rows(mut self, said: Said) -> Answered
+        ensures { λ r. ⌜ r ≡ saidWith said (withRows self 0 0) ⌝ }
     {
         self.huge = 0;
         self.path = 0;
-        Answered {
-            answer,
-            exchange: self,
-        }
+        self.say(said)
     }
 
-    // Neither HUGE nor PATH: the delay is accepted, and the offset is given unless it is a STEP.
-    fn accept(mut self, forward: i64, delay: u32) -> Answered
-        requires { ⌜ Within (2 ^ 33) forward ⌝ }
-        ensures { λ r. ⌜ r ≡ accepted self forward delay ⌝ }
+    // Neither HUGE nor PATH: the delay is accepted and the offset given, unless that is a STEP.
+    fn accept(mut self, forward: Nanoseconds, delay: u32) -> Answered
+        requires { ⌜ Within (2 ^ 33) (forward .0) ⌝ }
+        ensures { λ r. ⌜ r ≡ accepted self (forward .0) delay ⌝ }
     {
         let before = self.delays;
         let delays = before.filter(delay);
         let used = delays.used;
-        let offset = forward - (used as i64);
-        if steps(forward, used) {
-            return Answered {
-                answer: Answer::Step(Nanoseconds(offset)),
-                exchange: Exchange::fresh(),
-            };
+        let offset = forward.0 - (used as i64);
+        if is_step(forward, used) {
+            return self.say(Said::Step(Nanoseconds(offset)));
         }
         self.delays = delays;
         self.huge = 0;
@@ -208,15 +183,12 @@ impl Exchange {
             used: Nanoseconds(used as i64),
             offset: Nanoseconds(offset),
         };
-        Answered {
-            answer: Answer::Measured(found),
-            exchange: self,
-        }
+        self.say(Said::Measured(found))
     }
 
     // HUGE before PATH.
-    fn judge(self, forward: i64, delay: u32) -> Answered
-        ensures { λ r. ⌜ r ≡ judged self forward delay ⌝ }
+    fn judge(self, forward: Nanoseconds, delay: u32) -> Answered
+        ensures { λ r. ⌜ r ≡ judged self (forward .0) delay ⌝ }
     {
         if huge(forward, delay) {
             return self.huge_again();
@@ -229,66 +201,35 @@ impl Exchange {
     }
 
     // A finished measurement spends both halves, whatever comes of it.
-    fn finish(mut self, forward: i64, sum: i64) -> Answered
-        ensures { λ r. ⌜ r ≡ finished self forward sum ⌝ }
+    fn finish(mut self, times: Times) -> Answered
+        ensures { λ r. ⌜ r ≡ finished self (times .forward .0) (times .sum .0) ⌝ }
     {
         self.sync = Sync::fresh();
         self.request = Request::fresh();
-        match judge_sum(sum) {
-            Sum::Neg => self.break_rows(Answer::Neg),
-            Sum::Long => self.break_rows(Answer::Long),
-            Sum::Delay(delay) => self.judge(forward, delay),
+        match judge_sum(times.sum) {
+            Sum::Neg => self.break_rows(Said::Neg),
+            Sum::Long => self.break_rows(Said::Long),
+            Sum::Delay(delay) => self.judge(times.forward, delay),
         }
     }
 
-    // A one-step Sync, taken at t2: its timestamp is t1.
-    pub fn one_step(mut self, sequence: u16, correction: i64, t1: Stamp, t2: Stamp) -> Answered
-        ensures { λ r. ⌜ r ≡ told self (oneStep sequence correction t1 t2) ⌝ }
+    // A Sync, taken at t2. A one-step Sync carries t1 itself; of a two-step one the Follow_Up brings it.
+    pub fn sync(
+        self,
+        two_step: bool,
+        sequence: u16,
+        correction: i64,
+        t1: Stamp,
+        t2: Stamp,
+    ) -> Answered
+        ensures { λ r. ⌜ r ≡ told self (sync «two_step» sequence correction t1 t2) ⌝ }
     {
-        if refusals::field(t2) {
-            return self.refuse(Refusal::Field);
-        }
         if refusals::correction(correction) {
             return self.refuse(Refusal::Correction);
         }
-        let sync = Sync {
-            held: true,
-            known: true,
-            sequence,
-            t1,
-            t2,
-            correction,
-            follow: 0,
-        };
-        self.sync = sync;
-        self.take_stamp(t2, Answer::Held)
-    }
-
-    // A two-step Sync, taken at t2: its Follow_Up brings t1.
-    pub fn two_step(mut self, sequence: u16, correction: i64, t2: Stamp) -> Answered
-        ensures { λ r. ⌜ r ≡ told self (twoStep sequence correction t2) ⌝ }
-    {
-        if refusals::field(t2) {
-            return self.refuse(Refusal::Field);
-        }
-        if refusals::correction(correction) {
-            return self.refuse(Refusal::Correction);
-        }
-        let t1 = Stamp {
-            seconds: 0,
-            nanoseconds: 0,
-        };
-        let sync = Sync {
-            held: true,
-            known: false,
-            sequence,
-            t1,
-            t2,
-            correction,
-            follow: 0,
-        };
-        self.sync = sync;
-        self.take_stamp(t2, Answer::Held)
+        let mut next = self;
+        next.sync = Sync::heard(two_step, sequence, correction, t1, t2);
+        self.take_stamp(next, t2, Said::Held)
     }
 
     // A Follow_Up: t1 of the Sync that waits for it.
@@ -304,10 +245,7 @@ impl Exchange {
             sync.t1 = t1;
             sync.follow = correction;
             self.sync = sync;
-            Answered {
-                answer: Answer::Paired,
-                exchange: self,
-            }
+            self.say(Said::Paired)
         } else {
             self.refuse(Refusal::Unmatched)
         }
@@ -328,25 +266,20 @@ impl Exchange {
             t3,
         };
         self.request = request;
-        Answered {
-            answer: Answer::Asked,
-            exchange: self,
-        }
+        self.say(Said::Asked(sequence))
     }
 
     // The request of this sequenceId left at t3.
-    pub fn sent(mut self, sequence: u16, t3: Stamp) -> Answered
+    pub fn sent(self, sequence: u16, t3: Stamp) -> Answered
         ensures { λ r. ⌜ r ≡ told self (sent sequence t3) ⌝ }
     {
-        if refusals::field(t3) {
-            return self.refuse(Refusal::Field);
-        }
         let mut request = self.request;
         if request.waits_for(sequence) {
             request.given = true;
             request.t3 = t3;
-            self.request = request;
-            self.take_stamp(t3, Answer::Stamped)
+            let mut next = self;
+            next.request = request;
+            self.take_stamp(next, t3, Said::Stamped)
         } else {
             self.refuse(Refusal::Unmatched)
         }
@@ -369,8 +302,7 @@ impl Exchange {
         let sync = self.sync;
         let request = self.request;
         if refusals::partners(sync, request, sequence, requester, own) {
-            let times = measured(sync, request, t4, correction);
-            self.finish(times.forward, times.sum)
+            self.finish(times(sync, request, t4, correction))
         } else {
             self.refuse(Refusal::Unmatched)
         }

@@ -1,4 +1,4 @@
-// The refusals of the exchange, one small test for each, for a caller that keeps document 01's order: 5, 9, 18, 10, 16, 19, 17.
+// What the exchange's refusals ask, one small test for each. FIELD is asked by the unit, before its other refusals.
 // UNMATCHED of a Follow_Up and of t3 is `waits_for` of the half.
 use crate::halves::Request;
 use crate::halves::Sync;
@@ -7,7 +7,8 @@ use numbers::stamp::Stamp;
 use numbers::stamp::sound;
 use wire_layout::message::Port;
 ghost use mathlib.Core.Path.{_≡_};
-ghost use Rattle.rules_exchange.specs.Table.{samePort, partnersOf};
+ghost use Rattle.rules_exchange.specs.Table.{samePort};
+ghost use Rattle.rules_exchange.specs.Inner.{partnersOf};
 ghost use Rattle.rules_exchange.specs.Events.{fieldOf, correctionOf};
 
 // FIELD of t2 or t3.
@@ -17,11 +18,11 @@ pub fn field(t: Stamp) -> bool
     if sound(t) { false } else { true }
 }
 
-// CORRECTION: at or beyond 65,536,000,000,000 either way.
-pub fn correction(c: i64) -> bool
+// CORRECTION: 1,000,000,000 ns or more, on either side of 0 (rule 3.19).
+pub(crate) fn correction(c: i64) -> bool
     ensures { λ r. ⌜ r ≡ correctionOf c ⌝ }
 {
-    65536000000000 <= magnitude(c)
+    65_536_000_000_000 <= magnitude(c)
 }
 
 fn same_port(a: Port, b: Port) -> bool
@@ -34,8 +35,14 @@ fn same_port(a: Port, b: Port) -> bool
     }
 }
 
-// What a Delay_Resp needs, or it is UNMATCHED: t1, t2, t3, the pending sequenceId and the own port identity.
-pub fn partners(sync: Sync, request: Request, sequence: u16, requester: Port, own: Port) -> bool
+// What a Delay_Resp needs, or it is UNMATCHED: both halves whole, the request's sequenceId and the own port (rule 7.7).
+pub(crate) fn partners(
+    sync: Sync,
+    request: Request,
+    sequence: u16,
+    requester: Port,
+    own: Port,
+) -> bool
     ensures { λ r. ⌜ r ≡ partnersOf sync request sequence requester own ⌝ }
 {
     if sync.complete() {

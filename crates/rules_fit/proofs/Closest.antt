@@ -17,7 +17,7 @@ use lib.Ieee.Fits.{and-l, and-r, round-is}
 use lib.Ieee.Nearest.{closest}
 use lib.Ieee.Order.{drop, kept}
 use lib.Ieee.Scale.{grid, overflow}
-use Rattle.rules_fit.specs.Nearest.{dist, apart, Best}
+use Rattle.rules_fit.specs.Nearest.{distanceOf, signedDistance, Best}
 
 -- ---- the nearest whole number
 abbrev Cmp : Ordering → ℕ → ℕ → Type 0
@@ -49,29 +49,29 @@ even q = go (decLe (q % 2) 0)
     go (no h) = inr (omega arith)
 
 -- with Q = q * b, Z = z * b
-down-best : (Q r b a Z : ℕ) → Q + r ≡ a → r < b → r * 2 ≤ b → (Z ≤ Q) ⊎ (Q + b ≤ Z) → dist Q a ≤ dist Z a
+down-best : (Q r b a Z : ℕ) → Q + r ≡ a → r < b → r * 2 ≤ b → (Z ≤ Q) ⊎ (Q + b ≤ Z) → distanceOf Q a ≤ distanceOf Z a
 down-best Q r b a Z e h k (inl x) = omega arith
 down-best Q r b a Z e h k (inr x) = omega arith
 
-up-best : (Q r b a Z : ℕ) → Q + r ≡ a → r < b → b ≤ r * 2 → (Z ≤ Q) ⊎ (Q + b ≤ Z) → dist (Q + b) a ≤ dist Z a
+up-best : (Q r b a Z : ℕ) → Q + r ≡ a → r < b → b ≤ r * 2 → (Z ≤ Q) ⊎ (Q + b ≤ Z) → distanceOf (Q + b) a ≤ distanceOf Z a
 up-best Q r b a Z e h k (inl x) = omega arith
 up-best Q r b a Z e h k (inr x) = omega arith
 
 module _ (a b z : ℕ) (B : 0 < b) where
-  Down : b ≡ b → a % b * 2 ≤ b → dist (a / b * b) a ≤ dist (z * b) a
+  Down : b ≡ b → a % b * 2 ≤ b → distanceOf (a / b * b) a ≤ distanceOf (z * b) a
   Down _ h = down-best (a / b * b) (a % b) b a (z * b) (div-add-mod' a b) (mod-lt a B) h (sides (a / b) z b)
 
-  Up : b ≡ b → b ≤ a % b * 2 → dist (suc (a / b) * b) a ≤ dist (z * b) a
+  Up : b ≡ b → b ≤ a % b * 2 → distanceOf (suc (a / b) * b) a ≤ distanceOf (z * b) a
   Up _ h = rw suc-mul (up-best (a / b * b) (a % b) b a (z * b) (div-add-mod' a b) (mod-lt a B) h (sides (a / b) z b))
 
-  tie : a % b * 2 ≡ b → (a / b + a / b % 2 ≡ a / b) ⊎ (a / b + a / b % 2 ≡ suc (a / b)) → dist ((a / b + a / b % 2) * b) a ≤ dist (z * b) a
+  tie : a % b * 2 ≡ b → (a / b + a / b % 2 ≡ a / b) ⊎ (a / b + a / b % 2 ≡ suc (a / b)) → distanceOf ((a / b + a / b % 2) * b) a ≤ distanceOf (z * b) a
   tie h (inl e) = rw e (Down refl (le-of-eq h))
   tie h (inr e) = rw e (Up refl (le-of-eq (sym h)))
 
-  pub closest-best : dist (closest a b * b) a ≤ dist (z * b) a
+  pub closest-best : distanceOf (closest a b * b) a ≤ distanceOf (z * b) a
   closest-best = go (compare (a % b * 2) b) (cmp (a % b * 2) b)
     where
-      go : (o : Ordering) → Cmp o (a % b * 2) b → dist (nearest (a / b) o * b) a ≤ dist (z * b) a
+      go : (o : Ordering) → Cmp o (a % b * 2) b → distanceOf (nearest (a / b) o * b) a ≤ distanceOf (z * b) a
       go Ordering·lt h = Down refl (le-of-lt h)
       go Ordering·eq h = tie h (even (a / b))
       go Ordering·gt h = Up refl (le-of-lt h)
@@ -84,54 +84,54 @@ module _ (p n d : ℕ) (D : 0 < d) (P : 0 < p) where
   regroup : (c : ℕ) → c * (d * 2 ^ k) ≡ c * 2 ^ k * d
   regroup c = ap (λ (x : ℕ). c * x) (mul-comm d (2 ^ k)) ∙ sym (mul-assoc c (2 ^ k) d)
 
-  against : (z : ℕ) → dist (kept p n d * 2 ^ k * d) n ≤ dist (z * 2 ^ k * d) n
+  against : (z : ℕ) → distanceOf (kept p n d * 2 ^ k * d) n ≤ distanceOf (z * 2 ^ k * d) n
   against z = rw (← regroup (kept p n d), ← regroup z) (closest-best n (d * 2 ^ k) z (mul-pos D (pow-pos k)))
 
-  coarse : (q j : ℕ) → k ≤ j → dist (kept p n d * 2 ^ k * d) n ≤ dist (q * 2 ^ j * d) n
+  coarse : (q j : ℕ) → k ≤ j → distanceOf (kept p n d * 2 ^ k * d) n ≤ distanceOf (q * 2 ^ j * d) n
   coarse q j h =
       let e : q * 2 ^ (j - k) * 2 ^ k ≡ q * 2 ^ j = mul-assoc q (2 ^ (j - k)) (2 ^ k) ∙ ap (λ (x : ℕ). q * x) (sym (pow-add 2 (j - k) k) ∙ ap (λ (x : ℕ). 2 ^ x) (back j k h)) in
       rw (← e) (against (q * 2 ^ (j - k)))
 
   -- where j is below k, the value lies below 2 ^ (p - 1 + k), which is on the coarse grid and not above the fraction
-  fine : (q j : ℕ) → q < 2 ^ p → j < k → dist (kept p n d * 2 ^ k * d) n ≤ dist (q * 2 ^ j * d) n
+  fine : (q j : ℕ) → q < 2 ^ p → j < k → distanceOf (kept p n d * 2 ^ k * d) n ≤ distanceOf (q * 2 ^ j * d) n
   fine q j h l =
       let m : 2 ^ (p - 1) * 2 ^ k ≤ n / d = le-trans (le-of-eq (sym (pow-add 2 (p - 1) k))) (size-reaches (n / d) (p - 1 + k) (omega arith)) in
       let m' : 2 ^ (p - 1) * 2 ^ k * d ≤ n = le-div-iff-mul-le D .0 m in
       let b : q * 2 ^ j * d ≤ 2 ^ (p - 1) * 2 ^ k * d = mul-le-mul-right d (le-trans (le-of-lt (shl-lt p j h)) (le-trans (pow-mono (omega arith)) (le-of-eq (pow-add 2 (p - 1) k)))) in
-      let c : dist (kept p n d * 2 ^ k * d) n ≤ dist (2 ^ (p - 1) * 2 ^ k * d) n = against (2 ^ (p - 1)) in
+      let c : distanceOf (kept p n d * 2 ^ k * d) n ≤ distanceOf (2 ^ (p - 1) * 2 ^ k * d) n = against (2 ^ (p - 1)) in
       omega arith
 
-  pub units-best : (q j : ℕ) → q < 2 ^ p → dist (kept p n d * 2 ^ k * d) n ≤ dist (q * 2 ^ j * d) n
+  pub units-best : (q j : ℕ) → q < 2 ^ p → distanceOf (kept p n d * 2 ^ k * d) n ≤ distanceOf (q * 2 ^ j * d) n
   units-best q j h = go (decLe k j)
     where
-      go : Dec (k ≤ j) → dist (kept p n d * 2 ^ k * d) n ≤ dist (q * 2 ^ j * d) n
+      go : Dec (k ≤ j) → distanceOf (kept p n d * 2 ^ k * d) n ≤ distanceOf (q * 2 ^ j * d) n
       go (yes l) = coarse q j l
       go (no l) = fine q j h (lt-of-not-le l)
 
 -- ---- distances scale
-dist-mul : (a b c : ℕ) → dist (a * c) (b * c) ≡ dist a b * c
+dist-mul : (a b c : ℕ) → distanceOf (a * c) (b * c) ≡ distanceOf a b * c
 dist-mul a b c = sym (add-mul (a - b) (b - a) c ∙ ap (λ (x : ℕ). x + (b - a) * c) (sub-mul a b c) ∙ ap (λ (x : ℕ). a * c - b * c + x) (sub-mul b a c))
   where
     sub-mul : (x y z : ℕ) → (x - y) * z ≡ x * z - y * z
     sub-mul x y z = mul-comm (x - y) z ∙ mul-sub z x y ∙ ap (λ (w : ℕ). w - z * y) (mul-comm z x) ∙ ap (λ (w : ℕ). x * z - w) (mul-comm z y)
 
-apart-mul : (s : Bool) (a : ℕ) (t : Bool) (b c : ℕ) → apart s (a * c) t (b * c) ≡ apart s a t b * c
+apart-mul : (s : Bool) (a : ℕ) (t : Bool) (b c : ℕ) → signedDistance s (a * c) t (b * c) ≡ signedDistance s a t b * c
 apart-mul s a t b c = go (Bool·beq s t)
   where
-    go : (e : Bool) → cond e (dist (a * c) (b * c)) (a * c + b * c) ≡ cond e (dist a b) (a + b) * c
+    go : (e : Bool) → cond e (distanceOf (a * c) (b * c)) (a * c + b * c) ≡ cond e (distanceOf a b) (a + b) * c
     go true = dist-mul a b c
     go false = sym (add-mul a b c)
 
 -- a float of the value x / l, with l = 2 ^ low: its distance from n / d, in the float's terms and in units
 module _ (s σ : Bool) (mu de x l n d : ℕ) (v : mu * l ≡ x * de) where
-  in-units : apart s (mu * d) σ (n * de) * l ≡ apart s (x * d) σ (n * l) * de
+  in-units : signedDistance s (mu * d) σ (n * de) * l ≡ signedDistance s (x * d) σ (n * l) * de
   in-units =
       sym (apart-mul s (mu * d) σ (n * de) l)
-      ∙ ap (λ (y : ℕ). apart s y σ (n * de * l)) (mul-right-comm mu d l ∙ ap (λ (y : ℕ). y * d) v ∙ mul-right-comm x de d)
-      ∙ ap (λ (y : ℕ). apart s (x * d * de) σ y) (mul-right-comm n de l)
+      ∙ ap (λ (y : ℕ). signedDistance s y σ (n * de * l)) (mul-right-comm mu d l ∙ ap (λ (y : ℕ). y * d) v ∙ mul-right-comm x de d)
+      ∙ ap (λ (y : ℕ). signedDistance s (x * d * de) σ y) (mul-right-comm n de l)
       ∙ apart-mul s (x * d) σ (n * l) de
 
-same-sign : (s : Bool) (a b : ℕ) → apart s a s b ≡ dist a b
+same-sign : (s : Bool) (a b : ℕ) → signedDistance s a s b ≡ distanceOf a b
 same-sign true a b = refl
 same-sign false a b = refl
 
@@ -164,24 +164,24 @@ room : (f : Format) → suc (prec f + low f) ≤ low f + suc (emax f)
 room binary32 = lit≤ tt
 room binary64 = lit≤ tt
 
-small : (x xd N z B C O : ℕ) → dist xd N ≤ dist z N → z ≡ 0 → x ≤ xd → N < B → C ≡ B + B → C ≤ O → x < O
+small : (x xd N z B C O : ℕ) → distanceOf xd N ≤ distanceOf z N → z ≡ 0 → x ≤ xd → N < B → C ≡ B + B → C ≤ O → x < O
 small x xd N z B C O h w a b c e = omega arith
 
 module _ (f : Format) (σ : Bool) (n d : ℕ) (D : 0 < d) where
   -- in units
-  best-units : (t : Bool) (q j : ℕ) → q < 2 ^ prec f → dist (grid f n d * d) (n * 2 ^ low f) ≤ apart t (q * 2 ^ j * d) σ (n * 2 ^ low f)
+  best-units : (t : Bool) (q j : ℕ) → q < 2 ^ prec f → distanceOf (grid f n d * d) (n * 2 ^ low f) ≤ signedDistance t (q * 2 ^ j * d) σ (n * 2 ^ low f)
   best-units t q j h = go (Bool·beq t σ)
     where
-      go : (e : Bool) → dist (grid f n d * d) (n * 2 ^ low f) ≤ cond e (dist (q * 2 ^ j * d) (n * 2 ^ low f)) (q * 2 ^ j * d + n * 2 ^ low f)
+      go : (e : Bool) → distanceOf (grid f n d * d) (n * 2 ^ low f) ≤ cond e (distanceOf (q * 2 ^ j * d) (n * 2 ^ low f)) (q * 2 ^ j * d + n * 2 ^ low f)
       go true = units-best (prec f) (n * 2 ^ low f) d D (prec-pos f) q j h
       go false =
-          let z : dist (grid f n d * d) (n * 2 ^ low f) ≤ dist (0 * 2 ^ 0 * d) (n * 2 ^ low f) = units-best (prec f) (n * 2 ^ low f) d D (prec-pos f) 0 0 (pow-pos (prec f)) in
+          let z : distanceOf (grid f n d * d) (n * 2 ^ low f) ≤ distanceOf (0 * 2 ^ 0 * d) (n * 2 ^ low f) = units-best (prec f) (n * 2 ^ low f) d D (prec-pos f) 0 0 (pow-pos (prec f)) in
           let w : 0 * 2 ^ 0 * d ≡ 0 = zero-mul d in
           omega arith
 
   under : n < 2 ^ prec f → grid f n d < overflow f
   under h =
-      let z : dist (grid f n d * d) (n * 2 ^ low f) ≤ dist (0 * 2 ^ 0 * d) (n * 2 ^ low f) = units-best (prec f) (n * 2 ^ low f) d D (prec-pos f) 0 0 (pow-pos (prec f)) in
+      let z : distanceOf (grid f n d * d) (n * 2 ^ low f) ≤ distanceOf (0 * 2 ^ 0 * d) (n * 2 ^ low f) = units-best (prec f) (n * 2 ^ low f) d D (prec-pos f) 0 0 (pow-pos (prec f)) in
       let w : 0 * 2 ^ 0 * d ≡ 0 = zero-mul d in
       let a : grid f n d ≤ grid f n d * d = le-mul-of-pos-right (grid f n d) D in
       let b : n * 2 ^ low f < 2 ^ (prec f + low f) = shl-lt (prec f) (low f) h in
@@ -196,14 +196,14 @@ module _ (f : Format) (σ : Bool) (n d : ℕ) (D : 0 < d) where
       let y = fits-units f t q g h in
       let L = 2 ^ low f in
       let Y = q * 2 ^ (y .1 .0) in
-      let b : dist (grid f n d * d) (n * L) ≤ apart t (Y * d) σ (n * L) = best-units t q (y .1 .0) (y .0) in
-      let x1 : apart s (m * up e * d) σ (n * down e) * L ≡ dist (grid f n d * d) (n * L) * down e
-      = in-units s σ (m * up e) (down e) (grid f n d) L n d (v .1) ∙ ap (λ (r : Bool). apart r (grid f n d * d) σ (n * L) * down e) (v .0) ∙ ap (λ (r : ℕ). r * down e) (same-sign σ (grid f n d * d) (n * L)) in
-      let y1 : apart t (q * up g * d) σ (n * down g) * L ≡ apart t (Y * d) σ (n * L) * down g = in-units t σ (q * up g) (down g) Y L n d (y .1 .1) in
+      let b : distanceOf (grid f n d * d) (n * L) ≤ signedDistance t (Y * d) σ (n * L) = best-units t q (y .1 .0) (y .0) in
+      let x1 : signedDistance s (m * up e * d) σ (n * down e) * L ≡ distanceOf (grid f n d * d) (n * L) * down e
+      = in-units s σ (m * up e) (down e) (grid f n d) L n d (v .1) ∙ ap (λ (r : Bool). signedDistance r (grid f n d * d) σ (n * L) * down e) (v .0) ∙ ap (λ (r : ℕ). r * down e) (same-sign σ (grid f n d * d) (n * L)) in
+      let y1 : signedDistance t (q * up g * d) σ (n * down g) * L ≡ signedDistance t (Y * d) σ (n * L) * down g = in-units t σ (q * up g) (down g) Y L n d (y .1 .1) in
       le-of-mul-le-mul-right {k = L}
-      (le-trans (le-of-eq (mul-right-comm (apart s (m * up e * d) σ (n * down e)) (down g) L ∙ ap (λ (r : ℕ). r * down g) x1 ∙ mul-right-comm (dist (grid f n d * d) (n * L)) (down e) (down g)))
+      (le-trans (le-of-eq (mul-right-comm (signedDistance s (m * up e * d) σ (n * down e)) (down g) L ∙ ap (λ (r : ℕ). r * down g) x1 ∙ mul-right-comm (distanceOf (grid f n d * d) (n * L)) (down e) (down g)))
       (le-trans (mul-le-mul-right (down e) (mul-le-mul-right (down g) b))
-      (le-of-eq (ap (λ (r : ℕ). r * down e) (sym y1) ∙ mul-right-comm (apart t (q * up g * d) σ (n * down g)) L (down e)))))
+      (le-of-eq (ap (λ (r : ℕ). r * down e) (sym y1) ∙ mul-right-comm (signedDistance t (q * up g * d) σ (n * down g)) L (down e)))))
       (pow-pos (low f))
 
   pub round-best : n < 2 ^ prec f → Best f (round f σ n d) σ n d

@@ -14,7 +14,7 @@ use lib.Ieee.Fits.{up-pos, down-pos, round-fits}
 use lib.Ieee.Scale.{round-same}
 use lib.Ieee.Positive.{first-pos}
 use borrow.Author.Tests.{ne-eqb}
-use Rattle.rules_fit.specs.Nearest.{Nearest, rounded}
+use Rattle.rules_fit.specs.Nearest.{Nearest, nearestFloat}
 use Rattle.rules_fit.proofs.Closest.{round-best}
 
 -- unlike s false is s
@@ -62,8 +62,8 @@ above (pos n) h = (refl, ltb→lt 0 n (h .lt))
 above (negsuc n) h = absurd (h .lt)
 
 -- one division of two whole numbers below 2 ^ 53 is the fraction rounded once
-pub quotient : (b d : ℤ) → natAbs b < 2 ^ 53 → natAbs d < 2 ^ 53 → pos 0 <ℤ d → div binary64 (ofInt binary64 b) (ofInt binary64 d) ≡ rounded b d
-unfolding rounded
+pub quotient : (b d : ℤ) → natAbs b < 2 ^ 53 → natAbs d < 2 ^ 53 → pos 0 <ℤ d → div binary64 (ofInt binary64 b) (ofInt binary64 d) ≡ nearestFloat b d
+unfolding nearestFloat
 quotient b d h k p =
     div-values binary64 (ofInt binary64 b) (ofInt binary64 d) (not (nonNeg b)) (natAbs b) (natAbs d) (above d p .1) (whole-value b h)
     (subst (λ (s : Bool). HasValue (ofInt binary64 d) (not s) (natAbs d) 1) (above d p .0) (whole-value d k))
@@ -76,8 +76,8 @@ zero-is f c C =
     ∙ whole-unique f (round f false 0 1) (fin false 0 (pos 0)) false 0 (round-fits f false 0 1) tt (round-whole f false 0 (omega arith)) (refl, refl)
 
 -- and no f64 is nearer
-pub rounded-nearest : (b d : ℤ) → natAbs b < 2 ^ 53 → pos 0 <ℤ d → Nearest b d (rounded b d)
-unfolding rounded
+pub rounded-nearest : (b d : ℤ) → natAbs b < 2 ^ 53 → pos 0 <ℤ d → Nearest b d (nearestFloat b d)
+unfolding nearestFloat
 rounded-nearest b d h p =
     record {
       best = round-best binary64 (not (nonNeg b)) (natAbs b) (natAbs d) (above d p .1) h;

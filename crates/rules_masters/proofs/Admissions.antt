@@ -1,13 +1,16 @@
 -- The admission of an Announce: how it ends, what it changes in the table, and that no sender ever has two live records.
 use mathlib.Core.Path.{_≡_, refl, sym, ap, _∙_}
 use mathlib.Core.Bool.{Bool, true, false, cond, not, true≢false, _&&_}
-use mathlib.Core.List.{_++_}
 use Prim.Native.Nat.{ℕ, _≤_, _<_}
 use native.Mathlib.Omega.{arith}
 use lib.Dec.{leb, eqb}
 use lib.ListN.{length, getD, set, length-set}
 use lib.Seq.{getD-set-same, getD-set-other}
 use borrow.Author.Tests.{ltb-true, ltb-false, leb-false, eqb-false, not-true}
+use Rattle.numbers.specs.declared.refusal.Refusal.{Refusal}
+use Rattle.numbers.specs.declared.ruling.Ruling.{Ruling}
+use Rattle.numbers.specs.declared.ruling.Ruling.the-variants.{Clear, Barred}
+use Rattle.numbers.specs.Grounds.{firstOf}
 use Rattle.wire_layout.specs.declared.message.Port.{Port}
 use Rattle.rules_masters.specs.declared.record.Announce.{Announce}
 use Rattle.rules_masters.specs.declared.record.Record.{Record}
@@ -15,12 +18,10 @@ use Rattle.rules_masters.specs.declared.table.Table.{Table}
 use Rattle.rules_masters.specs.declared.admission.Answer.{Answer}
 use Rattle.rules_masters.specs.declared.admission.Answer.the-variants.{Refused, Renewed, Entered}
 use Rattle.rules_masters.specs.declared.admission.Admitted.{Admitted}
-use Rattle.rules_masters.specs.declared.admission.Verdict.{Verdict}
-use Rattle.rules_masters.specs.declared.admission.Verdict.the-variants.{Clear, Barred}
-use Rattle.rules_masters.specs.Records.{intervalOf, liveOf, knownOf, emptyRecord, enteredOf, renewedOf}
+use Rattle.rules_masters.specs.Records.{intervalOf, liveOf, knownOf, freshRecord, enteredOf, renewedOf}
 use Rattle.rules_masters.specs.Places.{placeOf, countOf, absent}
-use Rattle.rules_masters.specs.Admitting.{firstOf, entrance, home, isKnown, seating, acceptedOf, given, admittedOf}
-use Rattle.rules_masters.proofs.Grounds.{clear-cons, clear-append}
+use Rattle.rules_masters.specs.Admitting.{home, isKnown, isRepeat, isFull, acceptedOf, groundsOf, admittedBy, admittedOf}
+use Rattle.rules_masters.proofs.Barring.{clear-announce}
 use Rattle.rules_masters.proofs.Placing.{place-holds, place-there, has-room, opposite}
 use Rattle.rules_masters.proofs.Times.{live-exactly}
 use Rattle.rules_masters.proofs.Keys.{known-exactly, known-inside, key-symmetric, key-transitive, Keyed, keyed-set}
@@ -30,8 +31,8 @@ module _ (t : Table) (m : Announce) (interval now : ℕ) where
   pub record Renewal (place : ℕ) (u : Table) : Type 0 where
     pub known : place ≡ home (t .records) m interval now
     pub inside : place < 5
-    pub fresh : getD (t .records) place emptyRecord .announce .header .sequence ≡ m .header .sequence → ⊥
-    pub after : u ≡ record { records = set (t .records) place (renewedOf (getD (t .records) place emptyRecord) m now) }
+    pub fresh : getD (t .records) place freshRecord .announce .header .sequence ≡ m .header .sequence → ⊥
+    pub after : u ≡ record { records = set (t .records) place (renewedOf (getD (t .records) place freshRecord) m now) }
 
   -- its sender had none, and took the first place that was not live
   pub record Entry (place : ℕ) (u : Table) : Type 0 where
@@ -46,10 +47,10 @@ module _ (t : Table) (m : Announce) (interval now : ℕ) where
   Outcome (Renewed place) u = Renewal place u
   Outcome (Entered place) u = Entry place u
 
-  accepted : length (t .records) ≡ 5 → firstOf (seating (t .records) m interval now) ≡ Clear
+  accepted : length (t .records) ≡ 5 → isRepeat (t .records) m interval now ≡ false → isFull (t .records) m interval now ≡ false
       → Outcome (acceptedOf (t .records) m interval now .answer) (acceptedOf (t .records) m interval now .table)
-  unfolding acceptedOf seating
-  accepted five c = by (isKnown (t .records) m interval now) refl (clear-cons _ _ c .0) (clear-cons _ _ (clear-cons _ _ c .1) .0)
+  unfolding acceptedOf isRepeat isFull
+  accepted five = by (isKnown (t .records) m interval now) refl
     where
       place : ℕ
       place = home (t .records) m interval now
@@ -58,13 +59,13 @@ module _ (t : Table) (m : Announce) (interval now : ℕ) where
       free = placeOf (absent now interval) (t .records)
 
       renewed : Admitted
-      renewed = record { answer = Renewed place; table = record { records = set (t .records) place (renewedOf (getD (t .records) place emptyRecord) m now) } }
+      renewed = record { answer = Renewed place; table = record { records = set (t .records) place (renewedOf (getD (t .records) place freshRecord) m now) } }
 
       entered : Admitted
       entered = record { answer = Entered free; table = record { records = set (t .records) free (enteredOf m now) } }
 
       by : (k : Bool) → isKnown (t .records) m interval now ≡ k
-          → (k && eqb (getD (t .records) place emptyRecord .announce .header .sequence) (m .header .sequence)) ≡ false
+          → (k && eqb (getD (t .records) place freshRecord .announce .header .sequence) (m .header .sequence)) ≡ false
           → (not k && leb 5 (countOf (liveOf now interval) (t .records))) ≡ false
           → Outcome (cond k renewed entered .answer) (cond k renewed entered .table)
       by true e f g = record { known = refl; inside = ltb-true _ _ e; fresh = eqb-false _ _ f; after = refl }
@@ -73,23 +74,35 @@ module _ (t : Table) (m : Announce) (interval now : ℕ) where
           let h = has-room (liveOf now interval) (absent now interval) (opposite now interval) (t .records) n in
           record { unknown = ltb-false _ _ e; free = refl; inside = omega arith; after = refl }
 
+-- where a refusal is due it is the answer and the table stays; where none is, the Announce is accepted
+module _ (t : Table) (m : Announce) (domain : ℕ) (own : Port) (a last now : ℕ) where
+  pub admitted-barred : (r : Refusal) → firstOf (groundsOf t m domain own a last now) ≡ Barred r
+      → admittedOf t m domain own a last now ≡ record { answer = Refused r; table = t }
+  unfolding admittedOf
+  admitted-barred r e = rw e
+
+  pub admitted-clear : firstOf (groundsOf t m domain own a last now) ≡ Clear
+      → admittedOf t m domain own a last now ≡ acceptedOf (t .records) m (intervalOf a) now
+  unfolding admittedOf
+  admitted-clear e = rw e
+
 -- THEOREM. The three ways in which an admission ends.
 pub outcome : (t : Table) (m : Announce) (domain : ℕ) (own : Port) (a last now : ℕ) → length (t .records) ≡ 5
     → Outcome t m (intervalOf a) now (admittedOf t m domain own a last now .answer) (admittedOf t m domain own a last now .table)
 unfolding admittedOf
-outcome t m domain own a last now five = by (firstOf (entrance m domain own last now ++ seating (t .records) m (intervalOf a) now)) refl
+outcome t m domain own a last now five = by (firstOf (groundsOf t m domain own a last now)) refl
   where
-    by : (v : Verdict) → firstOf (entrance m domain own last now ++ seating (t .records) m (intervalOf a) now) ≡ v
-        → Outcome t m (intervalOf a) now (given v t (acceptedOf (t .records) m (intervalOf a) now) .answer)
-        (given v t (acceptedOf (t .records) m (intervalOf a) now) .table)
-    by Clear e = accepted t m (intervalOf a) now five (clear-append (entrance m domain own last now) _ e)
+    by : (v : Ruling) → firstOf (groundsOf t m domain own a last now) ≡ v
+        → Outcome t m (intervalOf a) now (admittedBy v t (acceptedOf (t .records) m (intervalOf a) now) .answer)
+        (admittedBy v t (acceptedOf (t .records) m (intervalOf a) now) .table)
+    by Clear e = let n = clear-announce _ _ _ _ _ _ _ e in accepted t m (intervalOf a) now five (n .1) (n .2)
     by (Barred r) e = refl
 
 -- the table has changed at this place, and nowhere else
 pub record OneChanged (t : Table) (place : ℕ) (u : Table) : Type 0 where
   pub inside : place < 5
-  pub changed : getD (u .records) place emptyRecord ≡ getD (t .records) place emptyRecord → ⊥
-  pub others : (other : ℕ) → (other ≡ place → ⊥) → getD (u .records) other emptyRecord ≡ getD (t .records) other emptyRecord
+  pub changed : getD (u .records) place freshRecord ≡ getD (t .records) place freshRecord → ⊥
+  pub others : (other : ℕ) → (other ≡ place → ⊥) → getD (u .records) other freshRecord ≡ getD (t .records) other freshRecord
   pub five : length (u .records) ≡ 5
 
 abbrev pub Changes : Table → Answer → Table → Type 0
@@ -98,13 +111,13 @@ Changes t (Renewed place) u = OneChanged t place u
 Changes t (Entered place) u = OneChanged t place u
 
 one-changed : (t : Table) (place : ℕ) (r : Record) (u : Table) → length (t .records) ≡ 5 → place < 5
-    → (r ≡ getD (t .records) place emptyRecord → ⊥) → u ≡ record { records = set (t .records) place r } → OneChanged t place u
+    → (r ≡ getD (t .records) place freshRecord → ⊥) → u ≡ record { records = set (t .records) place r } → OneChanged t place u
 one-changed t place r u five h new e =
     rw e
     record {
       inside = h;
-      changed = λ q. new (sym (getD-set-same (t .records) place r emptyRecord (omega arith)) ∙ q);
-      others = λ other n. getD-set-other (t .records) place other r emptyRecord n;
+      changed = λ q. new (sym (getD-set-same (t .records) place r freshRecord (omega arith)) ∙ q);
+      others = λ other n. getD-set-other (t .records) place other r freshRecord n;
       five = length-set (t .records) place r ∙ five;
     }
 
@@ -116,8 +129,8 @@ module _ (t : Table) (m : Announce) (interval now : ℕ) (five : length (t .reco
   changes-by (Renewed place) u o =
       one-changed t place _ u five (o .inside) (λ q. o .fresh (sym (ap (λ (r : Record). r .announce .header .sequence) q))) (o .after)
   changes-by (Entered place) u o =
-      let dead : liveOf now interval (getD (t .records) place emptyRecord) ≡ false =
-      rw (o .free) (not-true _ (place-holds (absent now interval) (t .records) emptyRecord (omega (arith, o .free, o .inside)))) in
+      let dead : liveOf now interval (getD (t .records) place freshRecord) ≡ false =
+      rw (o .free) (not-true _ (place-holds (absent now interval) (t .records) freshRecord (omega (arith, o .free, o .inside)))) in
       let live : liveOf now interval (enteredOf m now) ≡ true = live-exactly interval (enteredOf m now) now .1 (omega arith) in
       one-changed t place _ u five (o .inside) (λ q. true≢false (sym live ∙ ap (liveOf now interval) q ∙ dead)) (o .after)
 
@@ -144,27 +157,27 @@ admission-five t m domain own a last now five = by (r .answer) (r .table) (admis
 module _ (t : Table) (m : Announce) (interval now : ℕ) (five : length (t .records) ≡ 5) (keyed : Keyed now interval (t .records)) where
   -- the sender's live record was at that place already, ..
   renewed-alone : (place : ℕ) (u : Table) → Renewal t m interval now place u → (s : Port) (q : ℕ)
-      → knownOf s now interval (renewedOf (getD (t .records) place emptyRecord) m now) ≡ true
-      → knownOf s now interval (getD (t .records) q emptyRecord) ≡ true → q ≡ place
+      → knownOf s now interval (renewedOf (getD (t .records) place freshRecord) m now) ≡ true
+      → knownOf s now interval (getD (t .records) q freshRecord) ≡ true → q ≡ place
   renewed-alone place u o s q h k =
-      let r = getD (t .records) place emptyRecord in
+      let r = getD (t .records) place freshRecord in
       let here : knownOf (m .header .source) now interval r ≡ true =
-      rw (o .known) (place-holds (knownOf (m .header .source) now interval) (t .records) emptyRecord (omega (arith, o .known, o .inside))) in
+      rw (o .known) (place-holds (knownOf (m .header .source) now interval) (t .records) freshRecord (omega (arith, o .known, o .inside))) in
       let e = known-exactly (m .header .source) now interval r .0 here in
       let f = known-exactly s now interval (renewedOf r m now) .0 h in
       keyed s q place k (known-exactly s now interval r .1 (e .0, key-transitive (r .announce .header .source) (m .header .source) s (e .1) (f .1)))
 
   -- .. and of a sender that was unknown there was none
   entered-alone : (place : ℕ) (u : Table) → Entry t m interval now place u → (s : Port) (q : ℕ)
-      → knownOf s now interval (enteredOf m now) ≡ true → knownOf s now interval (getD (t .records) q emptyRecord) ≡ true → q ≡ place
+      → knownOf s now interval (enteredOf m now) ≡ true → knownOf s now interval (getD (t .records) q freshRecord) ≡ true → q ≡ place
   entered-alone place u o s q h k =
-      let r = getD (t .records) q emptyRecord in
+      let r = getD (t .records) q freshRecord in
       let e = known-exactly s now interval (enteredOf m now) .0 h in
       let f = known-exactly s now interval r .0 k in
       let same = key-transitive (r .announce .header .source) s (m .header .source) (f .1) (key-symmetric (m .header .source) s (e .1)) in
       let here : knownOf (m .header .source) now interval r ≡ true = known-exactly (m .header .source) now interval r .1 (f .0, same) in
       let inside = known-inside s now interval (t .records) q k in
-      let j = place-there (knownOf (m .header .source) now interval) (t .records) q emptyRecord inside here in
+      let j = place-there (knownOf (m .header .source) now interval) (t .records) q freshRecord inside here in
       absurd (omega (arith, o .unknown))
 
   keyed-by : (x : Answer) (u : Table) → Outcome t m interval now x u → Keyed now interval (u .records)

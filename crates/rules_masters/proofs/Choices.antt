@@ -8,14 +8,14 @@ use native.Mathlib.Omega.{arith}
 use lib.ListN.{getD}
 use Rattle.rules_masters.specs.declared.record.Record.{Record}
 use Rattle.rules_masters.specs.declared.choice.Choice.the-variants.{None, Master}
-use Rattle.rules_masters.specs.Records.{intervalOf, qualifiedOf, emptyRecord}
-use Rattle.rules_masters.specs.Places.{emptyTable}
+use Rattle.rules_masters.specs.Records.{intervalOf, qualifiedOf, freshRecord}
+use Rattle.rules_masters.specs.Places.{freshTable}
 use Rattle.rules_masters.specs.Comparison.{betterOf}
-use Rattle.rules_masters.specs.Choosing.{those, keeps, choiceAmong, inOrder, asChoice, choiceOf}
+use Rattle.rules_masters.specs.Choosing.{those, keptAmong, choiceAmong, inOrder, asChoice, choiceOf}
 use Rattle.rules_masters.proofs.Order.{At, stands-at, at-stands}
 use Rattle.rules_masters.proofs.Keeping.{kept-in, those-in, those-none, none-those}
 
--- THEOREM. The master chosen stands at a place of the table, and is qualified.
+-- THEOREM. The master chosen is at a place of the table, and is qualified.
 pub chosen-qualified : (t : List Record) (now a : ℕ) (r : Record) → choiceOf t now a ≡ Master r
     → At t r × (qualifiedOf now (intervalOf a) r ≡ true)
 unfolding choiceOf choiceAmong
@@ -25,13 +25,13 @@ chosen-qualified t now a r h = by (those (qualifiedOf now (intervalOf a)) (inOrd
         → At t r × (qualifiedOf now (intervalOf a) r ≡ true)
     by [] e k = let z : _≡_ {A = ℕ} 0 1 = cc in absurd (omega arith)
     by (first ∷ rest) e k =
-        let q : r ≡ keeps betterOf first rest = cc in
+        let q : r ≡ keptAmong betterOf first rest = cc in
         let m = those-in (qualifiedOf now (intervalOf a)) (inOrder t) r (rw (e, q) (kept-in betterOf first rest)) in
         (stands-at t r (m .0), m .1)
 
 -- THEOREM. The choice is NONE exactly when no record is qualified.
 pub none-exactly : (t : List Record) (now a : ℕ)
-    → (choiceOf t now a ≡ None) ↔ ((place : ℕ) → place < 5 → qualifiedOf now (intervalOf a) (getD t place emptyRecord) ≡ false)
+    → (choiceOf t now a ≡ None) ↔ ((place : ℕ) → place < 5 → qualifiedOf now (intervalOf a) (getD t place freshRecord) ≡ false)
 unfolding choiceOf choiceAmong
 none-exactly t now a = (λ h. only (those q (inOrder t)) refl h, λ none. rw (none-those q (inOrder t) (λ x m. spread none x (stands-at t x m))))
   where
@@ -39,14 +39,14 @@ none-exactly t now a = (λ h. only (those q (inOrder t)) refl h, λ none. rw (no
     q = qualifiedOf now (intervalOf a)
 
     only : (l : List Record) → those q (inOrder t) ≡ l → asChoice (choiceAmong betterOf l) ≡ None
-        → (place : ℕ) → place < 5 → q (getD t place emptyRecord) ≡ false
-    only [] e k place h = those-none q (inOrder t) e (getD t place emptyRecord) (at-stands t place h)
+        → (place : ℕ) → place < 5 → q (getD t place freshRecord) ≡ false
+    only [] e k place h = those-none q (inOrder t) e (getD t place freshRecord) (at-stands t place h)
     only (first ∷ rest) e k place h = let z : _≡_ {A = ℕ} 0 1 = cc in absurd (omega arith)
 
-    spread : ((place : ℕ) → place < 5 → q (getD t place emptyRecord) ≡ false) → (x : Record) → At t x → q x ≡ false
+    spread : ((place : ℕ) → place < 5 → q (getD t place freshRecord) ≡ false) → (x : Record) → At t x → q x ≡ false
     spread none x s = rw (s .stands) (none (s .place) (s .inside))
 
 -- an empty table has no master
-pub fresh-none : (now a : ℕ) → choiceOf (emptyTable .records) now a ≡ None
+pub fresh-none : (now a : ℕ) → choiceOf (freshTable .records) now a ≡ None
 unfolding choiceOf choiceAmong those qualifiedOf
 fresh-none now a = refl

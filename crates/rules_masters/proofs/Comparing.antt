@@ -9,8 +9,8 @@ use lib.ListN.{length, getD}
 use borrow.Author.Tests.{eq-eqb, eqb-true, eqb-false}
 use Rattle.rules_masters.specs.declared.record.Record.{Record}
 use Rattle.rules_masters.specs.Records.{sameKeyOf}
-use Rattle.rules_masters.specs.Comparison.{smaller, merits, distance, betterOf}
-use Rattle.rules_masters.proofs.Smaller.{skip, decide, smaller-irreflexive, smaller-transitive, smaller-total}
+use Rattle.rules_masters.specs.Comparison.{smaller, merits, nearness, betterOf}
+use Rattle.rules_masters.proofs.Smaller.{skip, differ, smaller-irreflexive, smaller-transitive, smaller-total}
 
 -- what a record says of its grandmaster
 abbrev pub quality : Record → List ℕ
@@ -18,24 +18,24 @@ quality r =
     let o = r .announce .offer in
     o .priority1 ∷ o .class ∷ o .accuracy ∷ o .variance ∷ o .priority2 ∷ []
 
--- two records that name one grandmaster agree on its priorities and quality
+-- where two records name one grandmaster, they say the same of its priorities and its quality
 abbrev pub Agree : Record → Record → Type 0
 Agree a b = a .announce .offer .grandmaster ≡ b .announce .offer .grandmaster → quality a ≡ quality b
 
 -- among records that agree one list of numbers decides
 abbrev pub rank : Record → List ℕ
-rank r = merits (r .announce .offer) ++ distance (r .announce)
+rank r = merits (r .announce .offer) ++ nearness (r .announce)
 
 same-front : (p xs ys : List ℕ) → smaller (p ++ xs) (p ++ ys) ≡ smaller xs ys
 unfolding smaller
 same-front [] xs ys = refl
 same-front (x ∷ p) xs ys = rw (eq-eqb x x refl) (same-front p xs ys)
 
--- what stands behind two numbers that differ does not count
+-- what follows two numbers that differ does not count
 cut-off : (p q : List ℕ) (g h : ℕ) (xs ys : List ℕ) → length p ≡ length q → (g ≡ h → ⊥)
     → smaller (p ++ (g ∷ [])) (q ++ (h ∷ [])) ≡ smaller (p ++ (g ∷ xs)) (q ++ (h ∷ ys))
 unfolding smaller
-cut-off [] [] g h xs ys l n = sym (decide g h [] [] n) ∙ decide g h xs ys n
+cut-off [] [] g h xs ys l n = sym (differ g h [] [] n) ∙ differ g h xs ys n
 cut-off [] (y ∷ q) g h xs ys l n = absurd (omega arith)
 cut-off (x ∷ p) [] g h xs ys l n = absurd (omega arith)
 cut-off (x ∷ p) (y ∷ q) g h xs ys l n = ap (λ r. cond (eqb x y) r (ltb x y)) (cut-off p q g h xs ys (omega arith) n)
@@ -51,14 +51,14 @@ better-rank a b agree = by (eqb ga gb) refl
     gb = b .announce .offer .grandmaster
 
     by : (t : Bool) → eqb ga gb ≡ t
-        → cond t (smaller (distance (a .announce)) (distance (b .announce))) (smaller (merits (a .announce .offer)) (merits (b .announce .offer)))
+        → cond t (smaller (nearness (a .announce)) (nearness (b .announce))) (smaller (merits (a .announce .offer)) (merits (b .announce .offer)))
         ≡ smaller (rank a) (rank b)
     by true e =
         let same = eqb-true ga gb e in
-        skip ga gb (distance (a .announce)) (distance (b .announce)) _ same refl
-        ∙ sym (same-front (quality a) (ga ∷ distance (a .announce)) (gb ∷ distance (b .announce)))
-        ∙ ap (λ q. smaller (quality a ++ (ga ∷ distance (a .announce))) (q ++ (gb ∷ distance (b .announce)))) (agree same)
-    by false e = cut-off (quality a) (quality b) ga gb (distance (a .announce)) (distance (b .announce)) refl (eqb-false ga gb e)
+        skip ga gb (nearness (a .announce)) (nearness (b .announce)) _ same refl
+        ∙ sym (same-front (quality a) (ga ∷ nearness (a .announce)) (gb ∷ nearness (b .announce)))
+        ∙ ap (λ q. smaller (quality a ++ (ga ∷ nearness (a .announce))) (q ++ (gb ∷ nearness (b .announce)))) (agree same)
+    by false e = cut-off (quality a) (quality b) ga gb (nearness (a .announce)) (nearness (b .announce)) refl (eqb-false ga gb e)
 
 -- THEOREMS. The comparison is irreflexive; among records that agree it is transitive and total: where neither is better, they have one sender.
 -- It is not transitive among those that do not agree: see Examples.

@@ -1,4 +1,4 @@
--- Document 01's example, "This is no maximum", by computation.
+-- The example of rule 5.15, by computation: the choice need not be the best of all.
 use mathlib.Core.Path.{_≡_, refl}
 use mathlib.Core.Bool.{true}
 use mathlib.Core.List.{[], _∷_}
@@ -6,9 +6,9 @@ use Prim.Native.Nat.{ℕ}
 use lib.IntN.{pos}
 use Rattle.rules_masters.specs.declared.record.Record.{Record}
 use Rattle.rules_masters.specs.declared.choice.Choice.the-variants.{Master}
-use Rattle.rules_masters.specs.Records.{emptyRecord, qualifiedOf}
+use Rattle.rules_masters.specs.Records.{freshRecord, qualifiedOf}
 use Rattle.rules_masters.specs.Comparison.{smaller, betterOf}
-use Rattle.rules_masters.specs.Choosing.{those, keeps, choiceAmong, choiceOf}
+use Rattle.rules_masters.specs.Choosing.{those, keptAmong, choiceAmong, choiceOf}
 
 -- a master with two arrivals at 0 ms
 abbrev pub master : (sender grandmaster priority1 steps : ℕ) → Record
@@ -47,7 +47,7 @@ master sender grandmaster priority1 steps =
       older = 0;
     }
 
--- "A (grandmaster X, priority1 10, steps 3), B (X, 200, steps 1), C (Y, 100)"; X is 24, Y is 25
+-- the three of the rule; its X is 24 here, its Y 25
 abbrev pub A : Record
 A = master 1 24 10 3
 
@@ -57,9 +57,9 @@ B = master 2 24 200 1
 abbrev pub C : Record
 C = master 3 25 100 0
 
--- "order A, B, C chooses C; A, C, B chooses B"
-pub no-maximum : (choiceOf (A ∷ B ∷ C ∷ emptyRecord ∷ emptyRecord ∷ []) 0 0 ≡ Master C) × (choiceOf (A ∷ C ∷ B ∷ emptyRecord ∷ emptyRecord ∷ []) 0 0 ≡ Master B)
-unfolding choiceOf choiceAmong those keeps qualifiedOf betterOf smaller
+-- in two orders of the table
+pub no-maximum : (choiceOf (A ∷ B ∷ C ∷ freshRecord ∷ freshRecord ∷ []) 0 0 ≡ Master C) × (choiceOf (A ∷ C ∷ B ∷ freshRecord ∷ freshRecord ∷ []) 0 0 ≡ Master B)
+unfolding choiceOf choiceAmong those keptAmong qualifiedOf betterOf smaller
 no-maximum = (refl, refl)
 
 -- the comparison is not transitive where records of one grandmaster do not agree: B beats A, A beats C, and C beats B

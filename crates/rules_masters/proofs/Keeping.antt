@@ -3,17 +3,17 @@ use mathlib.Core.Path.{_≡_, refl, sym, ap, subst, _∙_}
 use mathlib.Core.Bool.{Bool, true, false, cond, true≢false}
 use mathlib.Core.List.{List, [], _∷_, List·Memᴰ, List·Memᴰ·head, List·Memᴰ·tail, List·Memᴰ·cases-cons}
 use mathlib.Core.Logic.{⊎-elim}
-use Rattle.rules_masters.specs.Choosing.{those, keeps}
+use Rattle.rules_masters.specs.Choosing.{those, keptAmong}
 
--- what is kept stands in the list
+-- what is kept is in the list
 module _ {A : Type 0} (better : A → A → Bool) where
-  pub kept-in : (held : A) (rest : List A) → List·Memᴰ (keeps better held rest) (held ∷ rest)
-  unfolding keeps
+  pub kept-in : (held : A) (rest : List A) → List·Memᴰ (keptAmong better held rest) (held ∷ rest)
+  unfolding keptAmong
   kept-in held [] = List·Memᴰ·head refl
   kept-in held (next ∷ rest) = by (better next held) (kept-in (cond (better next held) next held) rest)
     where
-      by : (t : Bool) → List·Memᴰ (keeps better (cond t next held) rest) (cond t next held ∷ rest)
-          → List·Memᴰ (keeps better (cond t next held) rest) (held ∷ next ∷ rest)
+      by : (t : Bool) → List·Memᴰ (keptAmong better (cond t next held) rest) (cond t next held ∷ rest)
+          → List·Memᴰ (keptAmong better (cond t next held) rest) (held ∷ next ∷ rest)
       by true m = List·Memᴰ·tail m
       by false m = ⊎-elim (λ e. List·Memᴰ·head e) (λ k. List·Memᴰ·tail (List·Memᴰ·tail k)) (List·Memᴰ·cases-cons m)
 
@@ -34,8 +34,8 @@ module _ {A : Type 0} (better : A → A → Bool) (P : A → Type 0) (irreflexiv
   not-beaten false y held next p q r e h = h
 
   stays : (held : A) (rest : List A) → P held → ((x : A) → List·Memᴰ x rest → P x) → (y : A) → P y → better y held ≡ false
-      → better y (keeps better held rest) ≡ false
-  unfolding keeps
+      → better y (keptAmong better held rest) ≡ false
+  unfolding keptAmong
   stays held [] p all y r h = h
   stays held (next ∷ rest) p all y r h =
       let q = all next (List·Memᴰ·head refl) in
@@ -48,8 +48,8 @@ module _ {A : Type 0} (better : A → A → Bool) (P : A → Type 0) (irreflexiv
   not-itself false held next e = e
 
   later : (held : A) (rest : List A) → P held → ((x : A) → List·Memᴰ x rest → P x) → (y : A) → List·Memᴰ y rest
-      → better y (keeps better held rest) ≡ false
-  unfolding keeps
+      → better y (keptAmong better held rest) ≡ false
+  unfolding keptAmong
   later held [] p all y m = absurd (elim m [ ])
   later held (next ∷ rest) p all y m =
       let q = all next (List·Memᴰ·head refl) in
@@ -60,7 +60,7 @@ module _ {A : Type 0} (better : A → A → Bool) (P : A → Type 0) (irreflexiv
       (List·Memᴰ·cases-cons m)
 
   pub unbeaten : (held : A) (rest : List A) → ((x : A) → List·Memᴰ x (held ∷ rest) → P x) → (y : A) → List·Memᴰ y (held ∷ rest)
-      → better y (keeps better held rest) ≡ false
+      → better y (keptAmong better held rest) ≡ false
   unbeaten held rest all y m =
       let p = all held (List·Memᴰ·head refl) in
       ⊎-elim
@@ -68,7 +68,7 @@ module _ {A : Type 0} (better : A → A → Bool) (P : A → Type 0) (irreflexiv
       (λ j. later held rest p (λ x i. all x (List·Memᴰ·tail i)) y j)
       (List·Memᴰ·cases-cons m)
 
--- those of which p holds stand in the list, and there are none exactly where p holds of nothing in it
+-- those of which p holds are in the list, and there are none exactly where p holds of nothing in it
 module _ {A : Type 0} (p : A → Bool) where
   pub those-in : (l : List A) (x : A) → List·Memᴰ x (those p l) → List·Memᴰ x l × (p x ≡ true)
   unfolding those

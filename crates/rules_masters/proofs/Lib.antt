@@ -1,4 +1,4 @@
--- Laws of the masters. For callers: Times, Comparing, Choices, Admissions, Keys; document 01's example: Examples. The rest serves these and the proofs
+-- Laws of the masters. For callers: Times, Comparing, Choices, Admissions, Keys; the example of rule 5.15: Examples. The rest serves these and the proofs
 -- of the code.
 pub mod Times
 pub mod Smaller
@@ -6,7 +6,7 @@ pub mod Comparing
 pub mod Examples
 pub mod Placing
 pub mod Keys
-pub mod Grounds
+pub mod Barring
 pub mod Seating
 pub mod Admissions
 pub mod Keeping

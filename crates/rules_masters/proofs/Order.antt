@@ -8,7 +8,7 @@ use native.Mathlib.Omega.{arith}
 use lib.ListN.{length, getD, drop, drop-of-length-le}
 use lib.Seq.{drop-cons}
 use Rattle.rules_masters.specs.declared.record.Record.{Record}
-use Rattle.rules_masters.specs.Records.{emptyRecord}
+use Rattle.rules_masters.specs.Records.{freshRecord}
 use Rattle.rules_masters.specs.Choosing.{order, inOrder}
 
 -- n places from `place` on
@@ -16,13 +16,13 @@ unfoldable upwards : ℕ → ℕ → List ℕ
 upwards place zero = []
 upwards place (suc n) = place ∷ upwards (suc place) n
 
-standing : (t : List Record) (place n : ℕ) → place + n ≡ length t → map (λ at. getD t at emptyRecord) (upwards place n) ≡ drop place t
+standing : (t : List Record) (place n : ℕ) → place + n ≡ length t → map (λ at. getD t at freshRecord) (upwards place n) ≡ drop place t
 unfolding upwards
 standing t place zero e =
     let h : length t ≤ place = omega arith in
     sym (drop-of-length-le t h)
 standing t place (suc n) e =
-    rw (drop-cons t place emptyRecord (omega arith)) (ap (λ l. getD t place emptyRecord ∷ l) (standing t (suc place) n (omega arith)))
+    rw (drop-cons t place freshRecord (omega arith)) (ap (λ l. getD t place freshRecord ∷ l) (standing t (suc place) n (omega arith)))
 
 pub in-order : (t : List Record) → length t ≡ 5 → inOrder t ≡ t
 unfolding upwards
@@ -46,19 +46,19 @@ module _ {A : Type 0} (f : ℕ → A) where
   map-has from (suc n) place h k =
       ⊎-elim (λ e. List·Memᴰ·head (ap f (sym e))) (λ j. List·Memᴰ·tail (map-has (suc from) n place j (omega arith))) (eq-or-lt-of-le h)
 
--- a record in table order stands at one of the five places
+-- a record in table order is at one of the five places
 pub record At (t : List Record) (r : Record) : Type 0 where
   pub place : ℕ
   pub inside : place < 5
-  pub stands : r ≡ getD t place emptyRecord
+  pub stands : r ≡ getD t place freshRecord
 
 pub stands-at : (t : List Record) (r : Record) → List·Memᴰ r (inOrder t) → At t r
 unfolding upwards
 stands-at t r m =
-    let s = map-in (λ place. getD t place emptyRecord) order r m in
+    let s = map-in (λ place. getD t place freshRecord) order r m in
     record { place = s .0; inside = below 0 5 (s .0) (s .1); stands = s .2 }
 
--- and what stands there is in it
-pub at-stands : (t : List Record) (place : ℕ) → place < 5 → List·Memᴰ (getD t place emptyRecord) (inOrder t)
+-- and what is there is in it
+pub at-stands : (t : List Record) (place : ℕ) → place < 5 → List·Memᴰ (getD t place freshRecord) (inOrder t)
 unfolding upwards
-at-stands t place h = map-has (λ at. getD t at emptyRecord) 0 5 place (omega arith) h
+at-stands t place h = map-has (λ at. getD t at freshRecord) 0 5 place (omega arith) h

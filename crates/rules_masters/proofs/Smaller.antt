@@ -1,4 +1,4 @@
--- "smaller wins", number by number: what the code's tests say of it, and that it is a strict order on lists of one length.
+-- `smaller`, number by number: what the code's tests say of it, and that it is a strict order on lists of one length.
 use mathlib.Core.Path.{_≡_, refl, sym, _∙_}
 use mathlib.Core.Bool.{Bool, true, false, cond, false≢true}
 use mathlib.Core.Logic.{_⊎_, inl, inr}
@@ -16,9 +16,9 @@ unfolding smaller
 skip x y xs ys r e h = rw (eq-eqb x y e) h
 
 -- different ones decide
-pub decide : (x y : ℕ) (xs ys : List ℕ) → (x ≡ y → ⊥) → ltb x y ≡ smaller (x ∷ xs) (y ∷ ys)
+pub differ : (x y : ℕ) (xs ys : List ℕ) → (x ≡ y → ⊥) → ltb x y ≡ smaller (x ∷ xs) (y ∷ ys)
 unfolding smaller
-decide x y xs ys n = rw (ne-eqb x y n)
+differ x y xs ys n = rw (ne-eqb x y n)
 
 -- the last ones decide in any case
 last-by : (t : Bool) (x y : ℕ) → eqb x y ≡ t → ltb x y ≡ cond t false (ltb x y)
@@ -29,7 +29,7 @@ pub last : (x y : ℕ) → ltb x y ≡ smaller (x ∷ []) (y ∷ [])
 unfolding smaller
 last x y = last-by (eqb x y) x y refl
 
-pub ruleset decided = (last, decide, skip)
+pub ruleset decided = (last, differ, skip)
 
 -- `smaller` is a strict order on lists of one length
 
@@ -48,7 +48,7 @@ unfolding smaller
 parts x y xs ys h = by-test (eqb x y) x y (smaller xs ys) refl h
 
 less : (x y : ℕ) (xs ys : List ℕ) → x < y → smaller (x ∷ xs) (y ∷ ys) ≡ true
-less x y xs ys h = sym (decide x y xs ys (λ e. omega arith)) ∙ lt-ltb x y h
+less x y xs ys h = sym (differ x y xs ys (λ e. omega arith)) ∙ lt-ltb x y h
 
 pub smaller-transitive : (xs ys zs : List ℕ) → smaller xs ys ≡ true → smaller ys zs ≡ true → smaller xs zs ≡ true
 unfolding smaller

@@ -11,13 +11,14 @@ use Rattle.rules_masters.specs.declared.choice.Choice.{Choice}
 use Rattle.rules_masters.specs.declared.choice.Choice.the-variants.{None, Master}
 use Rattle.rules_masters.specs.Records.{intervalOf, qualifiedOf}
 use Rattle.rules_masters.specs.Comparison.{betterOf}
-use Rattle.rules_masters.specs.Choosing.{those, keeps, choiceAmong, asChoice, choiceOf, replacedBy, keptOf}
+use Rattle.rules_masters.specs.Choosing.{those, keptAmong, choiceAmong, asChoice, choiceOf}
+use Rattle.rules_masters.specs.Inner.{replacedBy, keptOf}
 use Rattle.rules_masters.proofs.Order.{in-order}
 
 -- the rest of the choice, through the qualified ones of l, from what is held so far
 unfoldable pub goesOn : ℕ → ℕ → Choice → List Record → Choice
 goesOn now interval None l = asChoice (choiceAmong betterOf (those (qualifiedOf now interval) l))
-goesOn now interval (Master held) l = Master (keeps betterOf held (those (qualifiedOf now interval) l))
+goesOn now interval (Master held) l = Master (keptAmong betterOf held (those (qualifiedOf now interval) l))
 
 abbrev pub GoesOn : ℕ → ℕ → List Record → ℕ → Choice → Type 0
 GoesOn now interval l place held = goesOn now interval None l ≡ goesOn now interval held (drop place l)
@@ -27,7 +28,7 @@ begins now interval l = refl
 
 step-by : (t : Bool) (now interval : ℕ) (held : Choice) (next : Record) (rest : List Record) → qualifiedOf now interval next ≡ t
     → goesOn now interval held (next ∷ rest) ≡ goesOn now interval (cond t (replacedBy next held) held) rest
-unfolding goesOn those keeps choiceAmong
+unfolding goesOn those keptAmong choiceAmong
 step-by true now interval None next rest e = rw e
 step-by true now interval (Master held) next rest e = rw e
 step-by false now interval None next rest e = rw e
@@ -44,7 +45,7 @@ turn now interval l place held d i h =
     rw (add-one place) (i ∙ ap (goesOn now interval held) (drop-cons l place d h) ∙ step now interval held (getD l place d) (drop (suc place) l))
 
 ends : (now interval : ℕ) (held : Choice) → goesOn now interval held [] ≡ held
-unfolding goesOn those keeps choiceAmong
+unfolding goesOn those keptAmong choiceAmong
 ends now interval None = refl
 ends now interval (Master held) = refl
 

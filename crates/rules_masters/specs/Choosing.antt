@@ -1,4 +1,4 @@
--- The choice of the master (document 01, "Masters").
+-- The choice of the master (rules 5.11 and 5.12).
 use Prim.Native.Nat.{ℕ}
 use mathlib.Core.Bool.{Bool, cond}
 use mathlib.Core.List.{List, [], _∷_, map}
@@ -7,7 +7,7 @@ use lib.ListN.{getD}
 use Rattle.rules_masters.specs.declared.record.Record.{Record}
 use Rattle.rules_masters.specs.declared.choice.Choice.{Choice}
 use Rattle.rules_masters.specs.declared.choice.Choice.the-variants.{None, Master}
-use Rattle.rules_masters.specs.Records.{intervalOf, qualifiedOf, emptyRecord}
+use Rattle.rules_masters.specs.Records.{intervalOf, qualifiedOf, freshRecord}
 use Rattle.rules_masters.specs.Comparison.{betterOf}
 
 module _ {A : Type 0} where
@@ -16,37 +16,28 @@ module _ {A : Type 0} where
   those p [] = []
   those p (x ∷ l) = cond (p x) (x ∷ those p l) (those p l)
 
-  -- "keeps the one held unless the next is better"
-  unfoldable pub keeps : (A → A → Bool) → A → List A → A
-  keeps better held [] = held
-  keeps better held (next ∷ rest) = keeps better (cond (better next held) next held) rest
+  -- each that is better than the one held takes over from it
+  unfoldable pub keptAmong : (A → A → Bool) → A → List A → A
+  keptAmong better held [] = held
+  keptAmong better held (next ∷ rest) = keptAmong better (cond (better next held) next held) rest
 
-  -- it starts with the first; "NONE exactly when" there is none
+  -- the first is held at the start; there is none only where the list is empty
   unfoldable pub choiceAmong : (A → A → Bool) → List A → Option A
   choiceAmong better [] = none
-  choiceAmong better (first ∷ rest) = some (keeps better first rest)
+  choiceAmong better (first ∷ rest) = some (keptAmong better first rest)
 
--- "in table order": the places in the order in which the choice goes through them
+-- the places, in the order in which the choice goes through them
 abbrev pub order : List ℕ
 order = 0 ∷ 1 ∷ 2 ∷ 3 ∷ 4 ∷ []
 
 -- the records at these places
 abbrev pub inOrder : List Record → List Record
-inOrder t = map (λ place. getD t place emptyRecord) order
+inOrder t = map (λ place. getD t place freshRecord) order
 
 abbrev pub asChoice : Option Record → Choice
 asChoice none = None
 asChoice (some r) = Master r
 
--- "The choice goes through qualified records in table order and keeps the one held unless the next is better. It is answered NONE exactly when no
--- record is qualified."
+-- among the qualified, place by place
 unfoldable pub choiceOf : List Record → ℕ → ℕ → Choice
 choiceOf t now a = asChoice (choiceAmong betterOf (those (qualifiedOf now (intervalOf a)) (inOrder t)))
-
--- one step of it, with what is held so far
-abbrev pub replacedBy : Record → Choice → Choice
-replacedBy next None = Master next
-replacedBy next (Master held) = Master (cond (betterOf next held) next held)
-
-unfoldable pub keptOf : ℕ → ℕ → Choice → Record → Choice
-keptOf now interval held next = cond (qualifiedOf now interval next) (replacedBy next held) held

@@ -1,24 +1,38 @@
--- The master chosen, as it is held between choices (document 01, "Masters").
+-- The master chosen, as it is held between choices (rules 3.16, 5.13, 5.14 and 10.1).
+use Prim.Native.Nat.{ℕ}
 use mathlib.Core.Bool.{Bool, true, false, cond, not, _&&_}
+use mathlib.Core.List.{List}
 use Rattle.wire_layout.specs.declared.message.Port.{Port}
+use Rattle.rules_masters.specs.declared.record.Record.{Record}
 use Rattle.rules_masters.specs.declared.choice.Choice.{Choice}
 use Rattle.rules_masters.specs.declared.choice.Choice.the-variants.{None, Master}
 use Rattle.rules_masters.specs.declared.chosen.Chosen.{Chosen}
+use Rattle.rules_masters.specs.declared.chosen.Decision.{Decision}
+use Rattle.rules_masters.specs.declared.chosen.Decision.the-variants.{Same, Changed}
 use Rattle.rules_masters.specs.Records.{sameKeyOf}
+use Rattle.rules_masters.specs.Choosing.{choiceOf}
 
--- "A fresh unit .. no master"
-abbrev pub nobody : Chosen
-nobody = record { some = false; sender = record { clock = 0; number = 0 } }
+-- what a fresh unit holds
+abbrev pub freshChosen : Chosen
+freshChosen = record { some = false; sender = record { clock = 0; number = 0 } }
 
--- "the choice .. is held between": the master is the sender of the record chosen
+-- the master is the sender of the record chosen
 abbrev pub chosenOf : Choice → Chosen
-chosenOf None = nobody
+chosenOf None = freshChosen
 chosenOf (Master r) = record { some = true; sender = r .announce .header .source }
 
--- the sender is the chosen master; NOT_MASTER is the opposite, "sender is not the chosen master, or none is chosen"
-unfoldable pub sentBy : Chosen → Port → Bool
-sentBy c sender = c .some && sameKeyOf (c .sender) sender
+-- the master that the choice at `now` gives over this table; a is the announce exponent
+abbrev pub chosenAt : List Record → ℕ → ℕ → Chosen
+chosenAt t now a = chosenOf (choiceOf t now a)
 
--- no "new or lost master": none both times, or one sender both times
+-- there is a master, and it sent this; NOT_MASTER is the opposite
+unfoldable pub isMaster : Chosen → Port → Bool
+isMaster c sender = c .some && sameKeyOf (c .sender) sender
+
+-- none both times, or one sender both times
 unfoldable pub sameMasterOf : Chosen → Chosen → Bool
-sameMasterOf a b = cond (a .some) (sentBy b (a .sender)) (not (b .some))
+sameMasterOf a b = cond (a .some) (isMaster b (a .sender)) (not (b .some))
+
+-- what the choice says: the master as before, or still none; or a new or lost one
+abbrev pub decisionOf : Chosen → Chosen → Decision
+decisionOf before after = cond (sameMasterOf before after) (Same after) (Changed after)

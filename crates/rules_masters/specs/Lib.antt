@@ -4,3 +4,4 @@ pub mod Places
 pub mod Choosing
 pub mod Admitting
 pub mod Holding
+pub mod Inner

@@ -1,4 +1,4 @@
--- A master's record: the interval, when it is live, when it is qualified, and what an arrival makes of it (document 01, "Masters").
+-- A master's record: the interval, when it is live, when it is qualified, and what an arrival makes of it (rules 5.1 to 5.8).
 use Prim.Native.Nat.{ℕ, _+_, _*_, _^_, min}
 use mathlib.Core.Bool.{Bool, _&&_}
 use lib.Dec.{leb, eqb}
@@ -9,27 +9,27 @@ use Rattle.wire_layout.specs.declared.message.Port.{Port}
 use Rattle.rules_masters.specs.declared.record.Announce.{Announce}
 use Rattle.rules_masters.specs.declared.record.Record.{Record}
 
--- "announce exponent 0 to 4 (interval 2^a seconds)", in ms; an exponent over 4 counts as 4
+-- in ms, for the announce exponent a; an exponent over 4 counts as 4
 abbrev pub intervalOf : ℕ → ℕ
 intervalOf a = 1000 * 2 ^ min a 4
 
--- "keyed by sender port identity": 8 octets of clock identity, 2 of port number
+-- one sender: clock identity and port number both
 unfoldable pub sameKeyOf : Port → Port → Bool
 sameKeyOf a b = eqb (a .clock) (b .clock) && eqb (a .number) (b .number)
 
--- "It is live while now is at most 4 intervals past the newer arrival": never without an arrival, and still where that lies above now
+-- never without an arrival, and still where the newer one lies above now
 unfoldable pub liveOf : ℕ → ℕ → Record → Bool
 liveOf now interval r = leb 1 (r .held) && leb now (r .newer + 4 * interval)
 
--- "a record not live counts as absent": the sender's own record, and live
+-- the sender's own record, and live
 unfoldable pub knownOf : Port → ℕ → ℕ → Record → Bool
 knownOf sender now interval r = liveOf now interval r && sameKeyOf (r .announce .header .source) sender
 
--- "It is qualified with two arrivals, the older at most 4 intervals ago, the newer at most 3."
+-- two arrivals, neither of them too long ago
 unfoldable pub qualifiedOf : ℕ → ℕ → Record → Bool
 qualifiedOf now interval r = leb 2 (r .held) && leb now (r .older + 4 * interval) && leb now (r .newer + 3 * interval)
 
--- "a fresh unit .. with an empty table": no arrival, and zeros for the rest
+-- a place that no master has taken: no arrival, and zeros for the rest
 abbrev pub noHeader : Header
 noHeader =
     record {
@@ -61,8 +61,8 @@ noOffer =
       time = 0;
     }
 
-abbrev pub emptyRecord : Record
-emptyRecord =
+abbrev pub freshRecord : Record
+freshRecord =
     record {
       announce = record { header = noHeader; stamp = record { seconds = 0; nanoseconds = 0 }; offer = noOffer };
       held = 0;
@@ -70,10 +70,10 @@ emptyRecord =
       older = 0;
     }
 
--- "A record holds the fixed part of the last Announce and its last two arrivals." The first Announce of a new sender, ..
+-- after the first Announce of a new sender, ..
 abbrev pub enteredOf : Announce → ℕ → Record
 enteredOf m now = record { announce = m; held = 1; newer = now; older = 0 }
 
--- .. and a further one of the same sender
+-- .. and after a further one of the same sender
 abbrev pub renewedOf : Record → Announce → ℕ → Record
 renewedOf r m now = record { announce = m; held = 2; newer = now; older = r .newer }

@@ -1,11 +1,13 @@
 // The admission of an Announce into the table.
 ghost use mathlib.Core.Path.{_≡_};
-ghost use Rattle.rules_masters.specs.Admitting.{alternateOf, entrance, firstOf, admittedOf, seatedOf};
+ghost use Rattle.rules_masters.specs.Admitting.{alternateOf, admittedOf};
+ghost use Rattle.rules_masters.specs.Inner.{barredOf, seatedOf};
 use crate::record::Announce;
 use crate::record::Record;
 use crate::record::interval;
 use crate::table::Table;
 use numbers::refusal::Refusal;
+use numbers::ruling::Ruling;
 use wire_layout::message::Port;
 
 // What became of an Announce: its refusal, or the place whose record it renewed, or the place that its new sender took.
@@ -21,39 +23,33 @@ pub struct Admitted {
     pub table: Table,
 }
 
-// The first refusal that is due, if one is.
-pub enum Verdict {
-    Clear,
-    Barred(Refusal),
-}
-
-// "In octet 6, bit 0 is alternate master": bit 8 of the two octets of flags.
+// Bit 0 of octet 6 (rule 2.3) is bit 8 of the two octets of flags.
 fn alternate(announce: Announce) -> bool
     ensures { λ r. ⌜ r ≡ alternateOf announce ⌝ }
 {
     announce.header.flags / 256 % 2 == 1
 }
 
-// The refusals that need no table, in the paper's order.
-fn barred(announce: Announce, domain: u8, own: Port, last: u64, now: u64) -> Verdict
-    ensures { λ r. ⌜ r ≡ firstOf (entrance announce domain own last now) ⌝ }
+// The refusals that need no table, in the order of rule 3.56.
+fn barred(announce: Announce, domain: u8, own: Port, last: u64, now: u64) -> Ruling
+    ensures { λ r. ⌜ r ≡ barredOf announce domain own last now ⌝ }
 {
     if now < last {
-        return Verdict::Barred(Refusal::Now);
+        return Ruling::Barred(Refusal::Now);
     }
     if announce.header.domain != domain {
-        return Verdict::Barred(Refusal::Domain);
+        return Ruling::Barred(Refusal::Domain);
     }
     if announce.header.source.clock == own.clock {
-        return Verdict::Barred(Refusal::Own);
+        return Ruling::Barred(Refusal::Own);
     }
     if alternate(announce) {
-        return Verdict::Barred(Refusal::Alternate);
+        return Ruling::Barred(Refusal::Alternate);
     }
     if 255 <= announce.offer.steps {
-        return Verdict::Barred(Refusal::Steps);
+        return Ruling::Barred(Refusal::Steps);
     }
-    Verdict::Clear
+    Ruling::Clear
 }
 
 // The refusals that look into the table; an Announce that none of them meets takes its place there.
@@ -89,7 +85,7 @@ fn seat(mut table: Table, announce: Announce, interval: u32, now: u64) -> Admitt
     }
 }
 
-// An Announce at `now`. `last` is the last accepted now, a the announce exponent.
+// An Announce at `now`. `last` is the unit's now (rule 1.8), a the announce exponent.
 pub fn admit(
     table: Table,
     announce: Announce,
@@ -102,10 +98,10 @@ pub fn admit(
     ensures { λ r. ⌜ r ≡ admittedOf table announce domain own a last now ⌝ }
 {
     match barred(announce, domain, own, last, now) {
-        Verdict::Barred(refusal) => Admitted {
+        Ruling::Barred(refusal) => Admitted {
             answer: Answer::Refused(refusal),
             table,
         },
-        Verdict::Clear => seat(table, announce, interval(a), now),
+        Ruling::Clear => seat(table, announce, interval(a), now),
     }
 }

@@ -1,6 +1,7 @@
-// The choice of the master: "goes through qualified records in table order and keeps the one held unless the next is better".
+// The choice of the master: place by place, the qualified ones only, each that is better taking over from the one held (rule 5.11).
 ghost use mathlib.Core.Path.{_≡_};
-ghost use Rattle.rules_masters.specs.Choosing.{keptOf, choiceOf};
+ghost use Rattle.rules_masters.specs.Choosing.{choiceOf};
+ghost use Rattle.rules_masters.specs.Inner.{keptOf};
 use crate::comparison::better;
 use crate::record::Record;
 use crate::record::interval;

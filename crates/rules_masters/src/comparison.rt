@@ -1,6 +1,6 @@
 // The comparison of two masters. Over all records it is no order: proofs/Examples.antt has three that go round.
 ghost use mathlib.Core.Path.{_≡_};
-ghost use Rattle.rules_masters.specs.Comparison.{smaller, merits, distance, betterOf};
+ghost use Rattle.rules_masters.specs.Comparison.{smaller, merits, nearness, betterOf};
 use crate::record::Announce;
 use crate::record::Record;
 use wire_layout::message::Offer;
@@ -29,7 +29,7 @@ fn finer(a: Offer, b: Offer) -> bool
 
 // Which of two ways to one grandmaster wins.
 fn nearer(a: Announce, b: Announce) -> bool
-    ensures { λ r. ⌜ r ≡ smaller (distance a) (distance b) ⌝ }
+    ensures { λ r. ⌜ r ≡ smaller (nearness a) (nearness b) ⌝ }
 {
     if a.offer.steps != b.offer.steps {
         return a.offer.steps < b.offer.steps;

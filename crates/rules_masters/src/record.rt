@@ -2,7 +2,7 @@
 ghost use mathlib.Core.Path.{_≡_};
 ghost use Prim.Native.Nat.{_+_};
 ghost use lib.Dec.{leb};
-ghost use Rattle.rules_masters.specs.Records.{intervalOf, liveOf, knownOf, qualifiedOf, sameKeyOf, noHeader, noOffer, emptyRecord, enteredOf, renewedOf};
+ghost use Rattle.rules_masters.specs.Records.{intervalOf, liveOf, knownOf, qualifiedOf, sameKeyOf, noHeader, noOffer, freshRecord, enteredOf, renewedOf};
 use numbers::stamp::Stamp;
 use wire_layout::message::Header;
 use wire_layout::message::Offer;
@@ -29,11 +29,11 @@ pub fn interval(a: u8) -> u32
     ensures { λ r. ⌜ r ≡ intervalOf a ⌝ }
 {
     match a {
-        0 => 1000,
-        1 => 2000,
-        2 => 4000,
-        3 => 8000,
-        _ => 16000,
+        0 => 1_000,
+        1 => 2_000,
+        2 => 4_000,
+        3 => 8_000,
+        _ => 16_000,
     }
 }
 
@@ -101,7 +101,7 @@ fn no_offer() -> Offer
 impl Record {
     // A place that no master has taken.
     pub fn fresh() -> Record
-        ensures { λ r. ⌜ r ≡ emptyRecord ⌝ }
+        ensures { λ r. ⌜ r ≡ freshRecord ⌝ }
     {
         let header = no_header();
         let stamp = Stamp {
@@ -146,7 +146,7 @@ impl Record {
         }
     }
 
-    // "It is live while now is at most 4 intervals past the newer arrival."
+    // Its newer arrival is no more than 4 intervals ago (rule 5.4).
     pub fn live(self, now: u64, interval: u32) -> bool
         ensures { λ r. ⌜ r ≡ liveOf now interval self ⌝ }
     {
@@ -166,7 +166,7 @@ impl Record {
         false
     }
 
-    // "It is qualified with two arrivals, the older at most 4 intervals ago, the newer at most 3."
+    // Two arrivals, the older no more than 4 intervals ago and the newer no more than 3 (rule 5.8).
     pub fn qualified(self, now: u64, interval: u32) -> bool
         ensures { λ r. ⌜ r ≡ qualifiedOf now interval self ⌝ }
     {

@@ -1,7 +1,7 @@
 // The table of the five masters.
 ghost use mathlib.Core.Path.{_≡_};
 ghost use Rattle.rules_masters.specs.Records.{knownOf};
-ghost use Rattle.rules_masters.specs.Places.{placeOf, absent, emptyTable};
+ghost use Rattle.rules_masters.specs.Places.{placeOf, absent, freshTable};
 use crate::record::Record;
 use wire_layout::message::Port;
 
@@ -13,7 +13,7 @@ pub struct Table {
 impl Table {
     // No master in any place.
     pub fn fresh() -> Table
-        ensures { λ r. ⌜ r ≡ emptyTable ⌝ }
+        ensures { λ r. ⌜ r ≡ freshTable ⌝ }
     {
         let empty = Record::fresh();
         let records = [empty; 5];

@@ -12,7 +12,7 @@ use denote.Array.{each}
 use denote.Shadow.{shadow}
 use denote.Signed.{SInt}
 
--- what stands past the end of a list is 0
+-- past the end of a list there is 0
 abbrev pub at : List ℤ → ℕ → ℤ
 at l i = getD l i (pos 0)
 

@@ -1,3 +1,4 @@
+-- What is proved of the servo. `Theorems` has what its readers want to know.
 pub mod Elements
 pub mod Tens
 pub mod Limits

@@ -10,7 +10,8 @@ use lib.Signed.{ltZ}
 use lib.ListN.{length, drop, drop-of-length-le}
 use lib.Seq.{drop-cons}
 use borrow.Author.Tests.{le-leb, lt-leb}
-use Rattle.numbers.specs.Integers.{Within, within-mul}
+use Rattle.numbers.specs.Integers.{Within}
+use Rattle.numbers.proofs.Integers.{within-mul}
 use Rattle.numbers.proofs.Ring.{v, _⊕_, within-by}
 use Rattle.numbers.proofs.Signs.{abs-within}
 use Rattle.rules_servo.specs.declared.shown.Totals.{Totals}

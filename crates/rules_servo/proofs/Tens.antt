@@ -9,7 +9,7 @@ use lib.IntN.{ℤ, pos}
 use lib.ListN.{length, take, drop, drop-of-length-le}
 use lib.Seq.{drop-cons, take-all, length-take-le}
 use Rattle.rules_servo.specs.Offsets.{lastTen, oppositeSigns, oppositesIn}
-use Rattle.rules_servo.specs.Ten.{listOf, noted}
+use Rattle.rules_servo.specs.Ten.{listOf, tenWith}
 use Rattle.rules_servo.specs.declared.ten.Ten.{Ten}
 use Rattle.rules_servo.proofs.Elements.{at}
 
@@ -54,5 +54,5 @@ noted-by n c x l =
     rw e (ap (λ (r : List ℤ). x ∷ r) (take-min (min n c) n l ∙ ap (λ (m : ℕ). take m l) f ∙ sym (take-min n (min (suc n) c) l)))
 
 -- what is held with one more: the last ten of what was held, with it
-pub noted-list : (t : Ten) (x : ℤ) → listOf (noted t x) ≡ lastTen x (listOf t)
+pub noted-list : (t : Ten) (x : ℤ) → listOf (tenWith t x) ≡ lastTen x (listOf t)
 noted-list t x = noted-by 9 (t .count) x (t .offsets)

@@ -1,3 +1,4 @@
+-- What is to be believed of the servo.
 pub mod Offsets
 pub mod Ten
 pub mod Steps

@@ -1,4 +1,4 @@
--- What document 01 asks of the last ten offsets, the newest first.
+-- What is asked of the last ten offsets, the newest first.
 use mathlib.Core.Bool.{Bool, cond, _&&_, _||_}
 use mathlib.Core.List.{List, [], _∷_}
 use Prim.Native.Nat.{ℕ, _+_}
@@ -7,7 +7,7 @@ use lib.ListN.{length, take}
 use lib.IntN.{ℤ, pos}
 use lib.Signed.{ltZ}
 
--- "The last ten offsets since the wipe are held": this one before the others
+-- the last ten (rule 8.5): this one before the others
 abbrev pub lastTen : ℤ → List ℤ → List ℤ
 lastTen x l = take 10 (x ∷ l)
 
@@ -21,6 +21,6 @@ oppositesIn [] = 0
 oppositesIn (x ∷ []) = 0
 oppositesIn (x ∷ y ∷ l) = cond (oppositeSigns x y) 1 0 + oppositesIn (y ∷ l)
 
--- "If there are ten and they show six or more neighbours of strictly opposite sign"
-abbrev pub swinging : List ℤ → Bool
-swinging l = eqb (length l) 10 && leb 6 (oppositesIn l)
+-- a swing (rule 8.6)
+abbrev pub swingsOf : List ℤ → Bool
+swingsOf l = eqb (length l) 10 && leb 6 (oppositesIn l)

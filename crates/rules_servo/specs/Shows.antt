@@ -1,4 +1,4 @@
--- What the servo shows: document 01, "Masters".
+-- What the servo shows (rules 6.2 to 6.4).
 use mathlib.Core.Bool.{Bool, true, cond, _&&_}
 use mathlib.Core.List.{List, [], _∷_}
 use Prim.Native.Nat.{ℕ, _+_}
@@ -19,23 +19,23 @@ unfoldable pub squares : List ℤ → ℤ
 squares [] = pos 0
 squares (x ∷ l) = x *ℤ x +ℤ squares l
 
--- "none beyond 99 either way"
+-- each from -99 to 99
 unfoldable pub near : List ℤ → Bool
 near [] = true
 near (x ∷ l) = leb (natAbs x) 99 && near l
 
--- "ten times their sum of squares less the square of their sum"
+-- of ten offsets a hundred times their variance
 abbrev pub spread : List ℤ → ℤ
 spread l = pos 10 *ℤ squares l -ℤ sum l *ℤ sum l
 
--- "TRACKING when ten offsets are held, none beyond 99 either way, and .. is under 5,000"
+-- TRACKING (rule 6.3)
 unfoldable pub isTracking : List ℤ → Bool
 isTracking l = eqb (length l) 10 && (near l && ltZ (spread l) (pos 5000))
 
--- "HOLDOVER when now is over 10,000 ms past the last accepted measurement since the wipe": where there was none, there is no HOLDOVER
+-- HOLDOVER (rule 6.2): where nothing was measured since the wipe, there is none
 abbrev pub isHoldover : Bool → ℕ → ℕ → Bool
-isHoldover measured last now = measured && ltb (last + 10000) now
+isHoldover measured last now = measured && ltb (last + 10_000) now
 
--- "The servo shows HOLDOVER ..; else TRACKING ..; else ADJUSTING"
-abbrev pub showing : Servo → Bool → Shown
-showing s holdover = cond holdover Holdover (cond (isTracking (listOf (s .ten))) Tracking Adjusting)
+-- the first of the three that holds
+abbrev pub shownOf : Servo → Bool → Shown
+shownOf s holdover = cond holdover Holdover (cond (isTracking (listOf (s .ten))) Tracking Adjusting)

@@ -11,9 +11,9 @@ abbrev pub listOf : Ten → List ℤ
 listOf t = take (min 10 (t .count)) (t .offsets)
 
 -- none held, and the memory cleared
-abbrev pub none : Ten
-none = record { offsets = replicate 10 (pos 0); count = 0 }
+abbrev pub emptyTen : Ten
+emptyTen = record { offsets = replicate 10 (pos 0); count = 0 }
 
 -- with one more: proofs/Tens.antt shows that the offsets held are then the last ten
-abbrev pub noted : Ten → ℤ → Ten
-noted t x = record { offsets = lastTen x (t .offsets); count = min 10 (t .count + 1) }
+abbrev pub tenWith : Ten → ℤ → Ten
+tenWith t x = record { offsets = lastTen x (t .offsets); count = min 10 (t .count + 1) }

@@ -1,8 +1,8 @@
-// The servo of document 01 (000): from an accepted offset to a rate in parts per billion.
+// The servo: from an accepted offset to a rate in parts per billion.
 ghost use mathlib.Core.Path.{_≡_};
 ghost use Prim.Native.Nat.{_-_, _^_};
 ghost use lib.IntN.{pos};
-ghost use Rattle.rules_servo.specs.Steps.{accepted, limitOf, halfGain, freshWith, steeredBy, halvedFrom, steppedBy};
+ghost use Rattle.rules_servo.specs.Steps.{heldOffset, limitOf, halfGain, freshServo, steeredServo, halvedServo, steppedServo};
 
 pub mod shown;
 pub mod ten;
@@ -13,7 +13,7 @@ use numbers::units::Nanoseconds;
 use numbers::units::Ppb;
 
 // With an I this far from 0 or farther the limit is passed whatever the offset, so that the sum may be made with this one.
-const FAR: u64 = 1000000000000000;
+const FAR: u64 = 1_000_000_000_000_000;
 
 #[repr(C)]
 pub struct Servo {
@@ -21,7 +21,7 @@ pub struct Servo {
     pub kp: u16, // in thousandths
     pub ki: u16, // in thousandths
     pub ten: Ten,
-    pub output: Ppb, // positive slows the clock
+    pub output: Ppb, // positive slows the clock (rule 8.4)
 }
 
 fn gain(thousandths: u16) -> i64
@@ -49,23 +49,23 @@ fn pace(k: u8) -> i64
 }
 
 // The limit in 1/128,000 ppb.
-fn units_of(limit: Ppb) -> u64
+fn limit_of(limit: Ppb) -> u64
     ensures { λ r. ⌜ r ≡ limitOf (limit .0) ⌝ }
 {
     let ppb = limit.0;
     if ppb < 0 {
         0
-    } else if ppb < 100000 {
-        ppb as u64 * 128000
+    } else if ppb < 100_000 {
+        ppb as u64 * 128_000
     } else {
-        12800000000
+        12_800_000_000
     }
 }
 
 impl Servo {
     // As after a wipe, with the set gains.
     pub fn fresh(kp: u16, ki: u16) -> Servo
-        ensures { λ r. ⌜ r ≡ freshWith kp ki ⌝ }
+        ensures { λ r. ⌜ r ≡ freshServo kp ki ⌝ }
     {
         Servo {
             integral: 0,
@@ -78,10 +78,10 @@ impl Servo {
 
     // I and the output with this offset, which is then among the ten. An accepted one is within 100,000,000.
     fn steered(self, offset: Nanoseconds, k: u8, limit: Ppb) -> Servo
-        ensures { λ r. ⌜ r ≡ steeredBy self (accepted (offset .0)) k (limitOf (limit .0)) ⌝ }
+        ensures { λ r. ⌜ r ≡ steeredServo self (heldOffset (offset .0)) k (limitOf (limit .0)) ⌝ }
     {
-        let x = rounding::within(offset.0, 100000000);
-        let units = units_of(limit);
+        let x = rounding::within(offset.0, 100_000_000);
+        let units = limit_of(limit);
         let gained = rounding::within(self.integral, FAR) + gain(self.ki) * x * pace(k);
         let integral = rounding::within(gained, units);
         let output = rounding::within(gain(self.kp) * x * 128 + integral, units);
@@ -97,7 +97,7 @@ impl Servo {
 
     // The gains halved, I 0 and the ten emptied.
     fn halved(mut self) -> Servo
-        ensures { λ r. ⌜ r ≡ halvedFrom self ⌝ }
+        ensures { λ r. ⌜ r ≡ halvedServo self ⌝ }
     {
         self.kp = half_gain(self.kp);
         self.ki = half_gain(self.ki);
@@ -108,7 +108,7 @@ impl Servo {
 
     // One accepted offset. The rate is then the record's output.
     pub fn step(self, offset: Nanoseconds, k: u8, limit: Ppb) -> Servo
-        ensures { λ r. ⌜ r ≡ steppedBy self (accepted (offset .0)) k (limitOf (limit .0)) ⌝ }
+        ensures { λ r. ⌜ r ≡ steppedServo self (heldOffset (offset .0)) k (limitOf (limit .0)) ⌝ }
     {
         let steered = self.steered(offset, k, limit);
         let ten = steered.ten;

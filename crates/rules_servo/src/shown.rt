@@ -1,6 +1,6 @@
 // What the servo shows: HOLDOVER, TRACKING or ADJUSTING.
 ghost use mathlib.Core.Path.{_≡_};
-ghost use Rattle.rules_servo.specs.Shows.{isTracking, isHoldover, showing};
+ghost use Rattle.rules_servo.specs.Shows.{isTracking, isHoldover, shownOf};
 ghost use Rattle.rules_servo.specs.Ten.{listOf};
 use crate::Servo;
 use crate::ten::Ten;
@@ -17,7 +17,7 @@ struct Totals {
     squares: i64,
 }
 
-// Ten are held, none beyond 99 either way, and they lie close together.
+// Ten are held, each from -99 to 99, and they lie close together (rule 6.3).
 fn tracking(ten: Ten) -> bool
     ensures { λ r. ⌜ r ≡ isTracking (listOf ten) ⌝ }
 {
@@ -41,13 +41,13 @@ fn tracking(ten: Ten) -> bool
     10 * totals.squares - totals.sum * totals.sum < 5000
 }
 
-// now is over 10,000 ms past the last accepted measurement, where there was one since the wipe.
+// A measurement was accepted since the wipe, and now is more than 10,000 ms after it (rule 6.2).
 pub fn holdover(measured: bool, last: u64, now: u64) -> bool
     ensures { λ r. ⌜ r ≡ isHoldover measured last now ⌝ }
 {
     if measured {
         if last < now {
-            10000 < now - last
+            10_000 < now - last
         } else {
             false
         }
@@ -58,7 +58,7 @@ pub fn holdover(measured: bool, last: u64, now: u64) -> bool
 
 impl Servo {
     pub fn shows(self, holdover: bool) -> Shown
-        ensures { λ r. ⌜ r ≡ showing self holdover ⌝ }
+        ensures { λ r. ⌜ r ≡ shownOf self holdover ⌝ }
     {
         let ten = self.ten;
         if holdover {

@@ -1,16 +1,16 @@
 // The last ten offsets since the wipe.
 ghost use mathlib.Core.Path.{_≡_};
 ghost use Prim.Native.Nat.{_+_, min};
-ghost use Rattle.rules_servo.specs.Offsets.{oppositeSigns, oppositesIn, swinging};
-ghost use Rattle.rules_servo.specs.Ten.{none, noted, listOf};
+ghost use Rattle.rules_servo.specs.Offsets.{oppositeSigns, oppositesIn, swingsOf};
+ghost use Rattle.rules_servo.specs.Ten.{emptyTen, tenWith, listOf};
 
 #[repr(C)]
 pub struct Ten {
     pub offsets: [i32; 10], // in nanoseconds, the newest first; an accepted one fits an i32
-    pub count: u8, // how many of them are held; over ten stands for ten
+    pub count: u8, // how many of them are held; over ten means ten
 }
 
-// Of strictly opposite sign. Zero has none.
+// Of opposite signs. Zero has none.
 fn opposite(x: i32, y: i32) -> bool
     ensures { λ r. ⌜ r ≡ oppositeSigns x y ⌝ }
 {
@@ -32,7 +32,7 @@ fn one_more(count: u8) -> u8
 impl Ten {
     // None held, and the memory cleared.
     pub(crate) fn empty() -> Ten
-        ensures { λ r. ⌜ r ≡ none ⌝ }
+        ensures { λ r. ⌜ r ≡ emptyTen ⌝ }
     {
         Ten {
             offsets: [0; 10],
@@ -42,7 +42,7 @@ impl Ten {
 
     // The last ten with this one.
     pub(crate) fn with(self, offset: i32) -> Ten
-        ensures { λ r. ⌜ r ≡ noted self offset ⌝ }
+        ensures { λ r. ⌜ r ≡ tenWith self offset ⌝ }
     {
         let o = self.offsets;
         Ten {
@@ -51,7 +51,7 @@ impl Ten {
         }
     }
 
-    // How many neighbours among all ten are of strictly opposite sign.
+    // How many of the nine pairs of neighbours are of opposite signs.
     fn opposites(self) -> u8
         ensures { λ r. ⌜ r ≡ oppositesIn (self .offsets) ⌝ }
     {
@@ -67,9 +67,9 @@ impl Ten {
         found
     }
 
-    // There are ten and they show six or more neighbours of strictly opposite sign.
+    // Ten are held, and six or more of their nine pairs are of opposite signs (rule 8.6).
     pub(crate) fn swings(self) -> bool
-        ensures { λ r. ⌜ r ≡ swinging (listOf self) ⌝ }
+        ensures { λ r. ⌜ r ≡ swingsOf (listOf self) ⌝ }
     {
         if self.count < 10 {
             false

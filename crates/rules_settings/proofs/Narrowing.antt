@@ -1,92 +1,150 @@
--- Settings in their ranges are held as they are given.
+-- Settings in their ranges: one fact for each end, and the types hold them as given.
 use mathlib.Core.Path.{_≡_, refl, sym, subst}
-use mathlib.Core.Bool.{Bool, true, false, cond, _&&_, not}
-use Prim.Native.Nat.{ℕ, _≤_, min}
+use mathlib.Core.Bool.{Bool, true, false, _&&_, not}
+use Prim.Native.Nat.{ℕ, _≤_, _<_, min}
 use native.Mathlib.Omega.{arith}
 use lib.Dec.{T}
 use lib.IntN.{ℤ, pos}
 use lib.Signed.{leZ, ltZ}
-use Rattle.numbers.specs.Integers.{up, one-side, leZ-true}
-use Rattle.numbers.specs.declared.refusal.Refusal.the-variants.{Settings as Outside}
+use Rattle.numbers.specs.Integers.{up}
+use Rattle.numbers.proofs.Integers.{one-side, leZ-true, ltZ-true, ltZ-false}
 use Rattle.rules_settings.specs.declared.Settings.{Settings}
 use Rattle.rules_settings.specs.declared.Given.{Given}
-use Rattle.rules_settings.specs.declared.Set.the-variants.{Accepted, Refused}
-use Rattle.rules_settings.specs.Ranges.{isBetween, steersIn, watchesIn, setBy, settingsOf, narrowedOf}
+use Rattle.rules_settings.specs.Ranges.{isBetween, steersOf, watchesOf, asGiven}
+use Rattle.rules_settings.specs.Inner.{narrowedOf}
+
+-- each end of each range
+pub record Ranges (s : Settings) : Type 0 where
+  pub announce-to : s .announce ≤ 4
+  pub sync-to : s .sync ≤ 7
+  pub kp-from : 100 ≤ s .kp
+  pub kp-to : s .kp ≤ 1000
+  pub ki-from : 10 ≤ s .ki
+  pub ki-to : s .ki ≤ 500
+  pub limit-from : 1 ≤ up (s .limit .0)
+  pub limit-to : up (s .limit .0) ≤ 100_000
+  pub window-from : 2 ≤ s .watch .window
+  pub window-to : s .watch .window ≤ 128
+  pub minimum-from : 2 ≤ s .watch .minimum
+  pub minimum-to : s .watch .minimum ≤ s .watch .window
+  pub holdoff-to : s .watch .holdoff ≤ 10
+  pub tolerance-to : s .watch .tolerance ≤ 100_000_000
+  pub spike-from : 1 ≤ s .watch .spike
+  pub spike-to : s .watch .spike ≤ 999_999_998
+  pub jump-from : s .watch .spike < s .watch .jump
+  pub jump-to : s .watch .jump ≤ 999_999_999
 
 -- both hold
-pub left : (a b : Bool) → (a && b) ≡ true → a ≡ true
-left true b e = refl
-left false b e = e
+pub split : (a b : Bool) → (a && b) ≡ true → (a ≡ true) × (b ≡ true)
+split true b e = (refl, e)
+split false b e = absurd (subst T (sym e) tt)
 
-pub right : (a b : Bool) → (a && b) ≡ true → b ≡ true
-right true b e = e
-right false b e = absurd (subst T (sym e) tt)
+isnt : (b : Bool) → not b ≡ true → b ≡ false
+isnt true e = sym e
+isnt false e = refl
 
--- a word that is at most `high` is not narrowed
-most : (x : ℤ) (high : ℕ) → leZ x (pos high) ≡ true → up x ≤ high
-most x high e = omega (arith, one-side x, leZ-true x (pos high) e)
+-- a word between two ends
+ends : (low : ℕ) (x high : ℤ) → isBetween (pos low) x high ≡ true → (low ≤ up x) × (up x ≤ up high)
+ends low x high e =
+    let h = split (not (ltZ x (pos low))) (leZ x high) e in
+    let from = ltZ-false x (pos low) (isnt (ltZ x (pos low)) (h .0)) in
+    let to = leZ-true x high (h .1) in
+    (omega (arith, one-side x), omega (arith, one-side x, one-side high))
 
-as-given : (x : ℤ) (high : ℕ) → up x ≤ high → min high (up x) ≡ up x
-as-given x high h = omega arith
+-- a word above another, which is not below 1
+over : (x y : ℤ) → 1 ≤ up x → ltZ x y ≡ true → up x < up y
+over x y h e = let k = ltZ-true x y e in omega (arith, one-side x, one-side y)
 
-upTo : (low x : ℤ) (high : ℕ) → isBetween low x (pos high) ≡ true → min high (up x) ≡ up x
-upTo low x high e = as-given x high (most x high (right (not (ltZ x low)) (leZ x (pos high)) e))
+-- a word that a type holds is not cut
+as-given : (x : ℤ) (most : ℕ) → up x ≤ most → min most (up x) ≡ up x
+as-given x most h = omega arith
 
 module _ (g : Given) where
-  abbrev exponents : Bool
-  exponents = isBetween (pos 0) (g .announce) (pos 4) && isBetween (pos 0) (g .sync) (pos 7)
+  abbrev announce : Bool
+  announce = isBetween (pos 0) (g .announce) (pos 4)
 
-  abbrev gains : Bool
-  gains = isBetween (pos 100) (g .kp) (pos 1000) && isBetween (pos 10) (g .ki) (pos 500)
+  abbrev sync : Bool
+  sync = isBetween (pos 0) (g .sync) (pos 7)
 
-  abbrev samples : Bool
-  samples = isBetween (pos 2) (g .window) (pos 128) && isBetween (pos 2) (g .minimum) (g .window)
+  abbrev kp : Bool
+  kp = isBetween (pos 100) (g .kp) (pos 1000)
 
-  abbrev times : Bool
-  times = isBetween (pos 0) (g .holdoff) (pos 10) && isBetween (pos 0) (g .tolerance) (pos 100000000)
+  abbrev ki : Bool
+  ki = isBetween (pos 10) (g .ki) (pos 500)
 
-  abbrev leaps : Bool
-  leaps = ltZ (g .spike) (g .jump) && leZ (g .jump) (pos 999999999)
+  abbrev limit : Bool
+  limit = isBetween (pos 1) (g .limit) (pos 100_000)
 
-  pub holdoff-most : watchesIn g ≡ true → up (g .holdoff) ≤ 10
-  unfolding watchesIn
-  holdoff-most e =
-      most (g .holdoff) 10
-      (right (not (ltZ (g .holdoff) (pos 0))) (leZ (g .holdoff) (pos 10)) (left (isBetween (pos 0) (g .holdoff) (pos 10)) (isBetween (pos 0) (g .tolerance) (pos 100000000)) (right samples times (left (samples && times) (isBetween (pos 1) (g .spike) (pos 999999998) && leaps) e))))
+  abbrev window : Bool
+  window = isBetween (pos 2) (g .window) (pos 128)
 
-  minimum-most : (w m : ℤ) → leZ w (pos 128) ≡ true → leZ m w ≡ true → up m ≤ 128
-  minimum-most w m e f = omega (arith, one-side w, one-side m, leZ-true w (pos 128) e, leZ-true m w f)
+  abbrev minimum : Bool
+  minimum = isBetween (pos 2) (g .minimum) (g .window)
 
-  pub in-ranges : steersIn g ≡ true → watchesIn g ≡ true → narrowedOf g ≡ setBy g
-  unfolding steersIn watchesIn
+  abbrev holdoff : Bool
+  holdoff = isBetween (pos 0) (g .holdoff) (pos 10)
+
+  abbrev tolerance : Bool
+  tolerance = isBetween (pos 0) (g .tolerance) (pos 100_000_000)
+
+  abbrev spike : Bool
+  spike = isBetween (pos 1) (g .spike) (pos 999_999_998)
+
+  abbrev above : Bool
+  above = ltZ (g .spike) (g .jump)
+
+  abbrev jump : Bool
+  jump = leZ (g .jump) (pos 999_999_999)
+
+  pub in-ranges : steersOf g ≡ true → watchesOf g ≡ true → Ranges (asGiven g)
+  unfolding steersOf watchesOf
   in-ranges e f =
-      let l = left (exponents && gains) (isBetween (pos 1) (g .limit) (pos 100000)) e in
-      let x = left exponents gains l in
-      let k = right exponents gains l in
-      let st = left (samples && times) (isBetween (pos 1) (g .spike) (pos 999999998) && leaps) f in
-      let sj = right (samples && times) (isBetween (pos 1) (g .spike) (pos 999999998) && leaps) f in
-      let w = left samples times st in
-      let t = right samples times st in
-      rw (
-        upTo (pos 0) (g .announce) 4 (left (isBetween (pos 0) (g .announce) (pos 4)) (isBetween (pos 0) (g .sync) (pos 7)) x),
-        upTo (pos 0) (g .sync) 7 (right (isBetween (pos 0) (g .announce) (pos 4)) (isBetween (pos 0) (g .sync) (pos 7)) x),
-        upTo (pos 100) (g .kp) 1000 (left (isBetween (pos 100) (g .kp) (pos 1000)) (isBetween (pos 10) (g .ki) (pos 500)) k),
-        upTo (pos 10) (g .ki) 500 (right (isBetween (pos 100) (g .kp) (pos 1000)) (isBetween (pos 10) (g .ki) (pos 500)) k),
-        upTo (pos 1) (g .limit) 100000 (right (exponents && gains) (isBetween (pos 1) (g .limit) (pos 100000)) e),
-        upTo (pos 2) (g .window) 128 (left (isBetween (pos 2) (g .window) (pos 128)) (isBetween (pos 2) (g .minimum) (g .window)) w),
-        as-given (g .minimum) 128 (minimum-most (g .window) (g .minimum) (right (not (ltZ (g .window) (pos 2))) (leZ (g .window) (pos 128)) (left (isBetween (pos 2) (g .window) (pos 128)) (isBetween (pos 2) (g .minimum) (g .window)) w)) (right (not (ltZ (g .minimum) (pos 2))) (leZ (g .minimum) (g .window)) (right (isBetween (pos 2) (g .window) (pos 128)) (isBetween (pos 2) (g .minimum) (g .window)) w))),
-        upTo (pos 0) (g .holdoff) 10 (left (isBetween (pos 0) (g .holdoff) (pos 10)) (isBetween (pos 0) (g .tolerance) (pos 100000000)) t),
-        upTo (pos 0) (g .tolerance) 100000000 (right (isBetween (pos 0) (g .holdoff) (pos 10)) (isBetween (pos 0) (g .tolerance) (pos 100000000)) t),
-        upTo (pos 1) (g .spike) 999999998 (left (isBetween (pos 1) (g .spike) (pos 999999998)) leaps sj),
-        as-given (g .jump) 999999999 (most (g .jump) 999999999 (right (ltZ (g .spike) (g .jump)) (leZ (g .jump) (pos 999999999)) (right (isBetween (pos 1) (g .spike) (pos 999999998)) leaps sj))),
-      )
+      let steers = split ((announce && sync) && (kp && ki)) limit e in
+      let few = split (announce && sync) (kp && ki) (steers .0) in
+      let exponents = split announce sync (few .0) in
+      let gains = split kp ki (few .1) in
+      let watches = split ((window && minimum) && (holdoff && tolerance)) (spike && (above && jump)) f in
+      let rest = split (window && minimum) (holdoff && tolerance) (watches .0) in
+      let samples = split window minimum (rest .0) in
+      let times = split holdoff tolerance (rest .1) in
+      let leaps = split spike (above && jump) (watches .1) in
+      let jumps = split above jump (leaps .1) in
+      let spikes = ends 1 (g .spike) (pos 999_999_998) (leaps .0) in
+      record {
+        announce-to = ends 0 (g .announce) (pos 4) (exponents .0) .1;
+        sync-to = ends 0 (g .sync) (pos 7) (exponents .1) .1;
+        kp-from = ends 100 (g .kp) (pos 1000) (gains .0) .0;
+        kp-to = ends 100 (g .kp) (pos 1000) (gains .0) .1;
+        ki-from = ends 10 (g .ki) (pos 500) (gains .1) .0;
+        ki-to = ends 10 (g .ki) (pos 500) (gains .1) .1;
+        limit-from = ends 1 (g .limit) (pos 100_000) (steers .1) .0;
+        limit-to = ends 1 (g .limit) (pos 100_000) (steers .1) .1;
+        window-from = ends 2 (g .window) (pos 128) (samples .0) .0;
+        window-to = ends 2 (g .window) (pos 128) (samples .0) .1;
+        minimum-from = ends 2 (g .minimum) (g .window) (samples .1) .0;
+        minimum-to = ends 2 (g .minimum) (g .window) (samples .1) .1;
+        holdoff-to = ends 0 (g .holdoff) (pos 10) (times .0) .1;
+        tolerance-to = ends 0 (g .tolerance) (pos 100_000_000) (times .1) .1;
+        spike-from = spikes .0;
+        spike-to = spikes .1;
+        jump-from = over (g .spike) (g .jump) (spikes .0) (jumps .0);
+        jump-to = let h = leZ-true (g .jump) (pos 999_999_999) (jumps .1) in omega (arith, one-side (g .jump));
+      }
 
--- accepted settings have a holdoff that the watch can count to
-pub accepted-holdoff : (g : Given) (s : Settings) → settingsOf g ≡ Accepted s → s .watch .holdoff ≤ 10
-accepted-holdoff g s e = go (steersIn g && watchesIn g) refl e
-  where
-    go : (b : Bool) → (steersIn g && watchesIn g) ≡ b → cond b (Accepted (setBy g)) (Refused Outside) ≡ Accepted s → s .watch .holdoff ≤ 10
-    go true p f =
-        let q : setBy g ≡ s = cc in
-        subst (λ (t : Settings). t .watch .holdoff ≤ 10) q (holdoff-most g (right (steersIn g) (watchesIn g) p))
-    go false p f = let z : _≡_ {A = ℕ} 0 1 = cc in absurd (omega arith)
+  -- and so the types hold them
+  pub as-set : steersOf g ≡ true → watchesOf g ≡ true → narrowedOf g ≡ asGiven g
+  as-set e f =
+      let r = in-ranges e f in
+      rw (
+        as-given (g .announce) 255 (omega (arith, r .announce-to)),
+        as-given (g .sync) 255 (omega (arith, r .sync-to)),
+        as-given (g .kp) 65_535 (omega (arith, r .kp-to)),
+        as-given (g .ki) 65_535 (omega (arith, r .ki-to)),
+        as-given (g .limit) 2_147_483_647 (omega (arith, r .limit-to)),
+        as-given (g .window) 255 (omega (arith, r .window-to)),
+        as-given (g .minimum) 255 (omega (arith, r .window-to, r .minimum-to)),
+        as-given (g .holdoff) 255 (omega (arith, r .holdoff-to)),
+        as-given (g .tolerance) 4_294_967_295 (omega (arith, r .tolerance-to)),
+        as-given (g .spike) 4_294_967_295 (omega (arith, r .spike-to)),
+        as-given (g .jump) 4_294_967_295 (omega (arith, r .jump-to)),
+      )

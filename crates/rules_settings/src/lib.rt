@@ -1,9 +1,10 @@
-// The thirteen settings, each with the range of document 01, "Settings".
+// The thirteen settings, and the one place where their ranges are asked.
 ghost use mathlib.Core.Path.{_≡_};
 ghost use mathlib.Core.Bool.{_&&_};
 ghost use Prim.Native.Nat.{min};
 ghost use Rattle.numbers.specs.Integers.{up};
-ghost use Rattle.rules_settings.specs.Ranges.{isBetween, steersIn, watchesIn, narrowedOf, settingsOf, bareSettings};
+ghost use Rattle.rules_settings.specs.Ranges.{isBetween, steersOf, watchesOf, settingsOf, bareSettings};
+ghost use Rattle.rules_settings.specs.Inner.{narrowedOf};
 use numbers::refusal::Refusal;
 use numbers::units::Ppb;
 use wire_layout::message::Port;
@@ -17,7 +18,7 @@ pub struct Settings {
     pub kp: u16, // in thousandths
     pub ki: u16, // in thousandths
     pub limit: Ppb,
-    pub watch: rules_watch::settings::Settings,
+    pub watch: rules_watch::settings::WatchSettings,
 }
 
 // The settings as they are given: words of any size.
@@ -52,7 +53,7 @@ impl Settings {
             clock: 0,
             number: 0,
         };
-        let watch = rules_watch::settings::Settings {
+        let watch = rules_watch::settings::WatchSettings {
             window: 0,
             minimum: 0,
             holdoff: 0,
@@ -85,7 +86,7 @@ fn both(a: bool, b: bool) -> bool
     if a { b } else { false }
 }
 
-// From 0 to `high`; a word beyond stands at the nearer end.
+// From 0 to `high`; a word beyond gives the nearer end.
 fn narrow(x: i64, high: u32) -> u32
     ensures { λ r. ⌜ r ≡ min high (up x) ⌝ }
 {
@@ -101,16 +102,16 @@ fn narrow(x: i64, high: u32) -> u32
 impl Given {
     // The exponents, the gains and the limit are in their ranges.
     fn steers(self) -> bool
-        ensures { λ r. ⌜ r ≡ steersIn self ⌝ }
+        ensures { λ r. ⌜ r ≡ steersOf self ⌝ }
     {
         let exponents = both(between(0, self.announce, 4), between(0, self.sync, 7));
         let gains = both(between(100, self.kp, 1000), between(10, self.ki, 500));
-        both(both(exponents, gains), between(1, self.limit, 100000))
+        both(both(exponents, gains), between(1, self.limit, 100_000))
     }
 
     // Those of the watch are.
     fn watches(self) -> bool
-        ensures { λ r. ⌜ r ≡ watchesIn self ⌝ }
+        ensures { λ r. ⌜ r ≡ watchesOf self ⌝ }
     {
         let samples = both(
             between(2, self.window, 128),
@@ -118,40 +119,40 @@ impl Given {
         );
         let times = both(
             between(0, self.holdoff, 10),
-            between(0, self.tolerance, 100000000),
+            between(0, self.tolerance, 100_000_000),
         );
-        let spike = between(1, self.spike, 999999998);
-        let jump = both(self.spike < self.jump, self.jump <= 999999999);
+        let spike = between(1, self.spike, 999_999_998);
+        let jump = both(self.spike < self.jump, self.jump <= 999_999_999);
         both(both(samples, times), both(spike, jump))
     }
 
-    // In the types that hold them.
+    // In the types that hold them: words in their ranges fit, any other is cut to its type's largest.
     fn narrowed(self) -> Settings
         ensures { λ r. ⌜ r ≡ narrowedOf self ⌝ }
     {
-        let watch = rules_watch::settings::Settings {
-            window: narrow(self.window, 128) as u8,
-            minimum: narrow(self.minimum, 128) as u8,
-            holdoff: narrow(self.holdoff, 10) as u8,
-            tolerance: narrow(self.tolerance, 100000000),
-            spike: narrow(self.spike, 999999998),
-            jump: narrow(self.jump, 999999999),
+        let watch = rules_watch::settings::WatchSettings {
+            window: narrow(self.window, 255) as u8,
+            minimum: narrow(self.minimum, 255) as u8,
+            holdoff: narrow(self.holdoff, 255) as u8,
+            tolerance: narrow(self.tolerance, 4_294_967_295),
+            spike: narrow(self.spike, 4_294_967_295),
+            jump: narrow(self.jump, 4_294_967_295),
         };
         let own = self.own;
         Settings {
             domain: self.domain,
             own,
-            announce: narrow(self.announce, 4) as u8,
-            sync: narrow(self.sync, 7) as u8,
-            kp: narrow(self.kp, 1000) as u16,
-            ki: narrow(self.ki, 500) as u16,
-            limit: Ppb(narrow(self.limit, 100000) as i32),
+            announce: narrow(self.announce, 255) as u8,
+            sync: narrow(self.sync, 255) as u8,
+            kp: narrow(self.kp, 65_535) as u16,
+            ki: narrow(self.ki, 65_535) as u16,
+            limit: Ppb(narrow(self.limit, 2_147_483_647) as i32),
             watch,
         }
     }
 
     // The settings, or SETTINGS for any outside its range.
-    pub fn accepted(self) -> Set
+    pub fn settings(self) -> Set
         ensures { λ r. ⌜ r ≡ settingsOf self ⌝ }
     {
         if self.steers() {

@@ -7,21 +7,22 @@ use lib.IntN.{ℤ, pos, negsuc, natAbs, _+ℤ_, _*ℤ_}
 use lib.Signed.{mag, _<ℤ_}
 use mir.Syntax.{w32}
 use mir.Val.{SFits}
-use Rattle.numbers.specs.Integers.{Within, within-mul, within-abs, int, up-mul, dn-mul}
+use Rattle.numbers.specs.Integers.{Within}
+use Rattle.numbers.proofs.Integers.{within-mul, within-abs, int, up-mul, dn-mul}
 use Rattle.numbers.proofs.Ring.{v, _⊕_, within-by}
 use Rattle.numbers.proofs.Straight.{Code, Env, end, _▸_, var, lit, sub, mul, range}
 use Rattle.rules_watch.specs.declared.window.Sample.{Sample}
 use Rattle.rules_watch.specs.declared.totals.Totals.{Totals}
-use Rattle.rules_watch.specs.Totals.{Over, none, withPoint, withSample, slopeOf, overOf}
+use Rattle.rules_watch.specs.Inner.{Over, noTotals, withPoint, withSample, slopeOf, overOf}
 
-pub i32-within : {z : ℤ} → SFits w32 z → Within 2147483648 z
+pub i32-within : {z : ℤ} → SFits w32 z → Within 2_147_483_648 z
 i32-within {z = z} f = go z (f .sfits)
   where
-    go : (z : ℤ) → mag z < 2 ^ 31 → Within 2147483648 z
+    go : (z : ℤ) → mag z < 2 ^ 31 → Within 2_147_483_648 z
     go (pos n) h = omega arith
     go (negsuc n) h = omega arith
 
-pub second-fits : (z : ℤ) → natAbs z < 1000000000 → SFits w32 z
+pub second-fits : (z : ℤ) → natAbs z < 1_000_000_000 → SFits w32 z
 second-fits (pos n) h = record { sfits = omega arith }
 second-fits (negsuc n) h = record { sfits = omega arith }
 
@@ -32,7 +33,7 @@ wider : {a b : ℕ} {x : ℤ} → a ≤ b → Within a x → Within b x
 wider h w = omega arith
 
 -- no sample at all, more room, one point more
-pub over-none : Over 0 none
+pub over-none : Over 0 noTotals
 over-none = record { n = omega arith; x = omega arith; xx = omega arith; y = omega arith; xy = omega arith }
 
 pub over-room : {k m : ℕ} {t : Totals} → k ≤ m → Over k t → Over m t
@@ -44,7 +45,7 @@ over-room h o = record {
   xy = wider (omega arith) (o .xy);
 }
 
-pub over-point : {k : ℕ} {t : Totals} {x y : ℤ} → Over k t → Within 127 x → Within 2147483648 y → Over (k + 1) (withPoint x y t)
+pub over-point : {k : ℕ} {t : Totals} {x y : ℤ} → Over k t → Within 127 x → Within 2_147_483_648 y → Over (k + 1) (withPoint x y t)
 over-point {k} {t} {x} {y} o p q = record {
   n = more (o .n) (record { above = omega arith; below = omega arith });
   x = wider (omega arith) (more (o .x) p);
@@ -73,10 +74,10 @@ over = sub (mul (var 0) (var 2)) (mul (var 1) (var 1))
 abbrev pub thousand : Code
 thousand = mul (lit (pos 1000)) over
 
-pub env : (t : Totals) → Over 128 t → Env (128 ∷ 16256 ∷ 2064512 ∷ 274877906944 ∷ 34909494181888 ∷ []) (t .n ∷ t .x ∷ t .xx ∷ t .y ∷ t .xy ∷ [])
+pub env : (t : Totals) → Over 128 t → Env (128 ∷ 16_256 ∷ 2_064_512 ∷ 274_877_906_944 ∷ 34_909_494_181_888 ∷ []) (t .n ∷ t .x ∷ t .xx ∷ t .y ∷ t .xy ∷ [])
 env t o = o .n ▸ o .x ▸ o .xx ▸ o .y ▸ o .xy ▸ end
 
--- "numerator and 1,000 times the denominator stay below 2^53"
+-- both numbers that are divided for the slope in ppm are exact as f64: they stay below 2^53
 pub slope-below : (t : Totals) → Over 128 t → natAbs (slopeOf t) < 2 ^ 53
 slope-below t o = omega (arith, within-abs (range (env t o) slope))
 

@@ -14,7 +14,8 @@ use lib.Seq.{getD-drop, getD-take, getD-append-add, take-suc-set, drop-set-lt, d
 use Rattle.rules_watch.specs.declared.window.Sample.{Sample}
 use Rattle.rules_watch.specs.declared.window.Window.{Window}
 use Rattle.rules_watch.specs.Rules.{onLast}
-use Rattle.rules_watch.specs.Window.{lastN, rot, held, blank, newestOf, emptied, pushed}
+use Rattle.rules_watch.specs.Window.{lastN, rot, samplesIn, blank, freshWindow, pushed}
+use Rattle.rules_watch.specs.Inner.{newestOf}
 
 -- the counts of a push on a ring of L places, of which k are held, into a window of w
 refill : (L : ℕ) {w : ℕ} → 0 < w → w ≤ L → L - 1 + 1 ≡ L
@@ -101,8 +102,8 @@ module _ {A : Type 0} where
 
 -- ---- the window
 -- after a sample it holds the last W of the samples before with the new one behind them
-pub held-pushed : (size : ℕ) (s : Sample) (w : Window) → length (w .samples) ≡ 128 → 0 < size → size ≤ 128 → held (pushed size s w) ≡ lastN size (held w ++ (s ∷ []))
-unfolding held
+pub held-pushed : (size : ℕ) (s : Sample) (w : Window) → length (w .samples) ≡ 128 → 0 < size → size ≤ 128 → samplesIn (pushed size s w) ≡ lastN size (samplesIn w ++ (s ∷ []))
+unfolding samplesIn
 held-pushed size s w full p q =
     let n = w .next % 128 in
     let k = min (w .len) 128 in
@@ -114,8 +115,8 @@ held-pushed size s w full p q =
     (ap (lastN (min (k + 1) size)) (rot-mod (n + 1) (set (w .samples) n s) (omega arith) (length-set (w .samples) n s ∙ full) ∙ rot-push n (w .samples) s (omega arith))
     ∙ last-push k size h s (omega arith) p (omega arith))
 
-pub held-none : (w : Window) → length (w .samples) ≡ 128 → w .len ≡ 0 → held w ≡ []
-unfolding held
+pub held-none : (w : Window) → length (w .samples) ≡ 128 → w .len ≡ 0 → samplesIn w ≡ []
+unfolding samplesIn
 held-none w full e =
     let n = w .next % 128 in
     let z : min (w .len) 128 ≡ 0 = omega arith in
@@ -125,16 +126,16 @@ held-none w full e =
     nothing [] h = refl
     nothing (s ∷ l) h = absurd (omega arith)
 
-pub held-fresh : held emptied ≡ []
-held-fresh = held-none emptied (length-replicate 128 blank) refl
+pub held-fresh : samplesIn freshWindow ≡ []
+held-fresh = held-none freshWindow (length-replicate 128 blank) refl
 
 -- a list by its last
 behind : (l : List Sample) (m : ℕ) → length l ≡ m + 1 → l ≡ take m l ++ (getD l m blank ∷ [])
 behind l m e = sym (take-all (suc m) l (omega arith)) ∙ take-suc l m blank (omega arith)
 
--- the sample taken last stands behind the others
-pub held-last : (w : Window) → length (w .samples) ≡ 128 → 0 < w .len → (l : List Sample) × (held w ≡ l ++ (newestOf w ∷ []))
-unfolding held
+-- the sample taken last comes after the others
+pub held-last : (w : Window) → length (w .samples) ≡ 128 → 0 < w .len → (l : List Sample) × (samplesIn w ≡ l ++ (newestOf w ∷ []))
+unfolding samplesIn
 held-last w full h =
     let n = w .next % 128 in
     let k = min (w .len) 128 in
@@ -150,7 +151,7 @@ held-last w full h =
     back-one : (n k : ℕ) → 0 < k → k ≤ 128 → n + (128 - k) + (k - 1) ≡ n + 127
     back-one n k p q = omega arith
 
--- f of the last of a list is f of what stands behind the others
+-- f of the last of a list is f of what comes after the others
 pub on-last : {A : Type 0} (none : A) (f : Sample → A) (l : List Sample) (s : Sample) → onLast none f (l ++ (s ∷ [])) ≡ f s
 unfolding onLast
 on-last none f [] s = refl

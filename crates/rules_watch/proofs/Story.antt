@@ -10,22 +10,26 @@ use lib.Dec.{leb, ltb}
 use lib.IntN.{ℤ, pos, natAbs, _-ℤ_}
 use lib.Signed.{leZ}
 use lib.ListN.{length, drop, length-append, length-replicate, length-set}
-use Rattle.rules_watch.specs.declared.settings.Settings.{Settings}
+use Rattle.numbers.specs.declared.refusal.Refusal.the-variants.{Tick}
+use Rattle.rules_watch.specs.declared.settings.WatchSettings.{WatchSettings}
 use Rattle.rules_watch.specs.declared.window.Sample.{Sample}
 use Rattle.rules_watch.specs.declared.Watch.{Watch}
-use Rattle.rules_watch.specs.declared.Answer.the-variants.{Back, Range, Jump}
+use Rattle.rules_watch.specs.declared.Pulse.the-variants.{Valid, Invalid, Back, Range, Jump}
+use Rattle.rules_watch.specs.declared.judging.Outcome.{Outcome}
+use Rattle.rules_watch.specs.declared.judging.Outcome.the-variants.{Refuse, Wipe, Take}
 use Rattle.rules_watch.specs.Settings.{sizeOf}
-use Rattle.rules_watch.specs.Window.{lastN, held, blank}
-use Rattle.rules_watch.specs.Rules.{Since, wiped, far, outsideOf, Outcome, refuse, wipe, take, sampleAfter, settled, judged, onLast, outcome, became, Pulse, heard, windowOf, lineSince}
-use Rattle.rules_watch.specs.Watch.{freshWatch, leaves, told, takes, played, drift}
+use Rattle.rules_watch.specs.Window.{lastN, samplesIn, blank}
+use Rattle.rules_watch.specs.Rules.{Since, freshSince, wipesOf, apart, outsideOf, sampleAfter, settled, followed, onLast, inside, outcome, sinceBy, Stamps, sinceAfter, windowOf, lineSince}
+use Rattle.rules_watch.specs.Watch.{freshWatch, sampleTaken, takenBy, sinceOf, takenOf, nextWatch, watchAfter, watchLine}
 use Rattle.rules_watch.proofs.Ring.{held-pushed, held-fresh, last-none, last-on, last-again}
+use Rattle.rules_watch.proofs.Outcomes.{outcome-is}
 
 -- every y is below a second
 pub data Small : List Sample → Type 0 where
   none : Small []
-  more : {s : Sample} {l : List Sample} → natAbs (s .y) < 1000000000 → Small l → Small (s ∷ l)
+  more : {s : Sample} {l : List Sample} → natAbs (s .y) < 1_000_000_000 → Small l → Small (s ∷ l)
 
-small-snoc : {l : List Sample} (s : Sample) → Small l → natAbs (s .y) < 1000000000 → Small (l ++ (s ∷ []))
+small-snoc : {l : List Sample} (s : Sample) → Small l → natAbs (s .y) < 1_000_000_000 → Small (l ++ (s ∷ []))
 small-snoc s none h = more h none
 small-snoc s (more k m) h = more k (small-snoc s m h)
 
@@ -39,14 +43,14 @@ unfolding lastN
 small-last n {l} m = small-drop (length l - n) m
 
 -- the memory w tells the samples h
-pub record Good (t : Settings) (h : Since) (w : Watch) : Type 0 where
+pub record Good (t : WatchSettings) (h : Since) (w : Watch) : Type 0 where
   pub full : length (w .window .samples) ≡ 128
-  pub holds : held (w .window) ≡ windowOf t (h .samples)
+  pub holds : samplesIn (w .window) ≡ windowOf t (h .samples)
   pub counts : w .taken ≡ min (length (h .samples)) 10
   pub origin : w .origin ≡ h .origin
   pub small : Small (h .samples)
 
-pub fresh-good : (t : Settings) → Good t wiped freshWatch
+pub fresh-good : (t : WatchSettings) → Good t freshSince freshWatch
 fresh-good t = record {
   full = length-replicate 128 blank;
   holds = held-fresh ∙ sym (last-none (sizeOf t));
@@ -56,48 +60,47 @@ fresh-good t = record {
 }
 
 -- what is made of a pulse depends on the samples since the wipe alone
-pub same-outcome : {t : Settings} {h : Since} {w : Watch} → Good t h w → (reference clock : ℤ) → outcome t (told w) reference clock ≡ outcome t h reference clock
+pub same-outcome : {t : WatchSettings} {h : Since} {w : Watch} → Good t h w → (reference clock : ℤ) → outcome t (sinceOf w) reference clock ≡ outcome t h reference clock
 same-outcome {t} {h} {w} g reference clock = rw (g .holds, g .origin, last-on _ _ (sizeOf t) (h .samples) (omega arith))
 
--- a sample that is taken is below a second
-abbrev Slight : Outcome → Type 0
-Slight refuse = Unit
-Slight (wipe a) = Unit
-Slight (take o s) = natAbs (s .y) < 1000000000
+-- a pulse that wipes is one of those that do, and a sample that is taken is below a second
+abbrev pub Proper : Outcome → Type 0
+Proper (Refuse r) = Unit
+Proper (Wipe p) = wipesOf p ≡ true
+Proper (Take o s) = natAbs (s .y) < 1_000_000_000
 
-slight-settled : (t : Settings) (o : ℤ) (p : Sample) (r y : ℤ) → natAbs y < 1000000000 → Slight (settled t o p r y)
-slight-settled t o p r y h = go (ltb (t .jump) (far y (p .y)))
+proper-settled : (t : WatchSettings) (o : ℤ) (p : Sample) (r y : ℤ) → natAbs y < 1_000_000_000 → Proper (settled t o p r y)
+proper-settled t o p r y h = go (ltb (t .jump) (apart y (p .y)))
   where
-    go : (b : Bool) → Slight (cond b (wipe Jump) (take o (sampleAfter t p r y)))
-    go true = tt
+    go : (b : Bool) → Proper (cond b (Wipe Jump) (Take o (sampleAfter t p r y)))
+    go true = refl
     go false = h
 
-slight-judged : (t : Settings) (o : ℤ) (p : Sample) (r y : ℤ) → Slight (judged t o p r y)
-slight-judged t o p r y = go (leZ r (p .reference)) (leb 1000000000 (natAbs y)) refl
+proper-judged : (t : WatchSettings) (o : ℤ) (p : Sample) (r y : ℤ) → Proper (followed t o p r y)
+proper-judged t o p r y = go (leZ r (p .reference)) (leb 1_000_000_000 (natAbs y)) refl
   where
-    go : (a b : Bool) → leb 1000000000 (natAbs y) ≡ b → Slight (cond a (wipe Back) (cond b (wipe Range) (settled t o p r y)))
-    go true b e = tt
-    go false true e = tt
-    go false false e = slight-settled t o p r y (leb-false 1000000000 (natAbs y) e)
+    go : (a b : Bool) → leb 1_000_000_000 (natAbs y) ≡ b → Proper (cond a (Wipe Back) (cond b (Wipe Range) (settled t o p r y)))
+    go true b e = refl
+    go false true e = refl
+    go false false e = proper-settled t o p r y (leb-false 1_000_000_000 (natAbs y) e)
 
-slight-last : (first : Outcome) (f : Sample → Outcome) (l : List Sample) → Slight first → ((s : Sample) → Slight (f s)) → Slight (onLast first f l)
+proper-last : (first : Outcome) (f : Sample → Outcome) (l : List Sample) → Proper first → ((s : Sample) → Proper (f s)) → Proper (onLast first f l)
 unfolding onLast
-slight-last first f [] h k = h
-slight-last first f (s ∷ []) h k = k s
-slight-last first f (s ∷ r ∷ l) h k = slight-last first f (r ∷ l) h k
+proper-last first f [] h k = h
+proper-last first f (s ∷ []) h k = k s
+proper-last first f (s ∷ r ∷ l) h k = proper-last first f (r ∷ l) h k
 
-slight : (t : Settings) (h : Since) (r c : ℤ) → Slight (outcome t h r c)
-slight t h r c = go (outsideOf r || outsideOf c)
+-- every outcome is proper
+pub proper : (t : WatchSettings) (h : Since) (r c : ℤ) → Proper (outcome t h r c)
+proper t h r c = rw (outcome-is t h r c) (go (outsideOf r || outsideOf c))
   where
-    go : (b : Bool) → Slight (cond b refuse (onLast (take (c -ℤ r) (record { reference = r; y = pos 0; valid = true })) (λ p. judged t (h .origin) p r (c -ℤ r -ℤ h .origin)) (h .samples)))
+    go : (b : Bool) → Proper (cond b (Refuse Tick) (inside t h r c))
     go true = tt
-    go false = slight-last _ _ (h .samples) (omega arith) (λ p. slight-judged t (h .origin) p r (c -ℤ r -ℤ h .origin))
+    go false = proper-last _ _ (h .samples) (omega arith) (λ p. proper-judged t (h .origin) p r (c -ℤ r -ℤ h .origin))
 
--- what is taken stays told
-good-leaves : {t : Settings} {h : Since} {w : Watch} → Good t h w → (o : Outcome) → Slight o → Good t (became h o) (leaves t w o .watch)
-good-leaves g refuse s = g
-good-leaves {t} g (wipe a) s = fresh-good t
-good-leaves {t} {h} {w} g (take o s) k = record {
+-- a sample taken stays told
+pub good-accepted : {t : WatchSettings} {h : Since} {w : Watch} → Good t h w → (o : ℤ) (s : Sample) → natAbs (s .y) < 1_000_000_000 → Good t (sinceBy h (Take o s)) (sampleTaken t w o s .watch)
+good-accepted {t} {h} {w} g o s k = record {
   full = length-set (w .window .samples) _ s ∙ g .full;
   holds = held-pushed (sizeOf t) s (w .window) (g .full) (omega arith) (omega arith) ∙ rw (g .holds) (last-again (sizeOf t) (h .samples) s (omega arith));
   counts = rw (g .counts) (count (length (h .samples)) (length (h .samples ++ (s ∷ []))) (length-append (h .samples) (s ∷ [])));
@@ -108,19 +111,33 @@ good-leaves {t} {h} {w} g (take o s) k = record {
     count : (m n : ℕ) → n ≡ m + 1 → min (min m 10 + 1) 10 ≡ min n 10
     count m n e = omega arith
 
--- ---- the two calls, told from the samples since the wipe
-pub good-takes : {t : Settings} {h : Since} {w : Watch} → Good t h w → (reference clock : ℤ) → takes t w reference clock ≡ leaves t w (outcome t h reference clock)
-good-takes {t} {h} {w} g reference clock = ap (leaves t w) (same-outcome g reference clock)
+-- a sample taken wipes nothing
+pub next-taken : (t : WatchSettings) (w : Watch) (o : ℤ) (s : Sample) → nextWatch (sampleTaken t w o s) ≡ sampleTaken t w o s .watch
+next-taken t w o s = go (s .valid)
+  where
+    go : (b : Bool) → cond (wipesOf (cond b Valid Invalid)) freshWatch (sampleTaken t w o s .watch) ≡ sampleTaken t w o s .watch
+    go true = refl
+    go false = refl
 
-pub good-keeps : {t : Settings} {h : Since} {w : Watch} → Good t h w → (reference clock : ℤ) → Good t (became h (outcome t h reference clock)) (takes t w reference clock .watch)
-good-keeps {t} {h} {w} g reference clock = rw (good-takes g reference clock) (good-leaves g (outcome t h reference clock) (slight t h reference clock))
+-- after any outcome
+good-leaves : {t : WatchSettings} {h : Since} {w : Watch} → Good t h w → (o : Outcome) → Proper o → Good t (sinceBy h o) (nextWatch (takenBy t w o))
+good-leaves g (Refuse r) k = g
+good-leaves {t} g (Wipe p) k = rw k (fresh-good t)
+good-leaves {t} {h} {w} g (Take o s) k = rw (next-taken t w o s) (good-accepted g o s k)
+
+-- ---- the two calls, told from the samples since the wipe
+pub good-takes : {t : WatchSettings} {h : Since} {w : Watch} → Good t h w → (reference clock : ℤ) → takenOf t w reference clock ≡ takenBy t w (outcome t h reference clock)
+good-takes {t} {h} {w} g reference clock = ap (takenBy t w) (same-outcome g reference clock)
+
+pub good-keeps : {t : WatchSettings} {h : Since} {w : Watch} → Good t h w → (reference clock : ℤ) → Good t (sinceBy h (outcome t h reference clock)) (nextWatch (takenOf t w reference clock))
+good-keeps {t} {h} {w} g reference clock = rw (good-takes g reference clock) (good-leaves g (outcome t h reference clock) (proper t h reference clock))
 
 -- any list of pulses
-pub good-played : {t : Settings} {h : Since} {w : Watch} → Good t h w → (l : List Pulse) → Good t (heard t h l) (played t w l)
+pub good-played : {t : WatchSettings} {h : Since} {w : Watch} → Good t h w → (l : List Stamps) → Good t (sinceAfter t h l) (watchAfter t w l)
 good-played g [] = g
 good-played g (p ∷ l) = good-played (good-keeps g (p .reference) (p .clock)) l
 
-pub good-line : {t : Settings} {h : Since} {w : Watch} → Good t h w → t .holdoff ≤ 10 → drift t w ≡ lineSince t h
+pub good-line : {t : WatchSettings} {h : Since} {w : Watch} → Good t h w → t .holdoff ≤ 10 → watchLine t w ≡ lineSince t h
 good-line {t} {h} {w} g k = rw (g .holds, g .counts, reach (t .holdoff) (length (h .samples)) k)
   where
     reach : (d n : ℕ) → d ≤ 10 → leb d (min n 10) ≡ leb d n

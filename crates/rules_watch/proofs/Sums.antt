@@ -11,7 +11,8 @@ use Rattle.rules_fit.specs.Points.{Point, total}
 use Rattle.rules_watch.specs.declared.window.Sample.{Sample}
 use Rattle.rules_watch.specs.declared.totals.Totals.{Totals}
 use Rattle.rules_watch.specs.Window.{blank}
-use Rattle.rules_watch.specs.Totals.{none, withPoint, withSample, upFrom, points, pointsOf, totalsOf}
+use Rattle.rules_watch.specs.Totals.{upFrom, points, pointsOf}
+use Rattle.rules_watch.specs.Inner.{noTotals, withPoint, withSample, totalsOf}
 
 -- the samples of a list, the first at the position k, added to t
 unfoldable pub sumFrom : ℕ → Totals → List Sample → Totals
@@ -35,8 +36,8 @@ sum-is k t (s ∷ l) = go (s .valid) (λ (u : Totals). sum-is (suc k) u l)
     go true ih = ih (withPoint (pos k) (s .y) t) ∙ plus-point t (record { x = pos k; y = s .y }) (points (upFrom (suc k) l) l)
     go false ih = ih t
 
-pub sum-all : (l : List Sample) → sumFrom 0 none l ≡ totalsOf (pointsOf l)
-sum-all l = sum-is 0 none l ∙ simp +ℤ-idl
+pub sum-all : (l : List Sample) → sumFrom 0 noTotals l ≡ totalsOf (pointsOf l)
+sum-all l = sum-is 0 noTotals l ∙ simp +ℤ-idl
 
 -- a turn of the walk, and its end
 pub sum-turn : (k : ℕ) (t : Totals) (l : List Sample) → k < length l → sumFrom k t (drop k l) ≡ sumFrom (k + 1) (withSample k (getD l k blank) t) (drop (k + 1) l)

@@ -3,7 +3,7 @@ use mathlib.Core.Bool.{false}
 use mathlib.Core.List.{List, _++_}
 use Prim.Native.Nat.{ℕ, _+_, _-_, _%_, min}
 use lib.IntN.{pos}
-use lib.ListN.{length, take, drop, set, getD, replicate}
+use lib.ListN.{length, take, drop, set, replicate}
 use Rattle.rules_watch.specs.declared.window.Sample.{Sample}
 use Rattle.rules_watch.specs.declared.window.Window.{Window}
 
@@ -17,20 +17,16 @@ module _ {A : Type 0} where
   rot n l = drop n l ++ take n l
 
 -- what is held, oldest first: of the ring's places, read round from the one that is written next, the last `len`
-unfoldable pub held : Window → List Sample
-held w = lastN (min (w .len) 128) (rot (w .next % 128) (w .samples))
+unfoldable pub samplesIn : Window → List Sample
+samplesIn w = lastN (min (w .len) 128) (rot (w .next % 128) (w .samples))
 
 -- a cleared place
 abbrev pub blank : Sample
 blank = record { reference = pos 0; y = pos 0; valid = false }
 
--- the sample taken last
-abbrev pub newestOf : Window → Sample
-newestOf w = getD (w .samples) ((w .next % 128 + 127) % 128) blank
-
--- an empty window, its memory cleared
-abbrev pub emptied : Window
-emptied = record { samples = replicate 128 blank; next = 0; len = 0 }
+-- an empty window, its memory cleared (rule 10.13)
+abbrev pub freshWindow : Window
+freshWindow = record { samples = replicate 128 blank; next = 0; len = 0 }
 
 -- s is written over the place that is next
 abbrev pub pushed : ℕ → Sample → Window → Window

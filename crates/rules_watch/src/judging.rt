@@ -2,33 +2,34 @@
 ghost use mathlib.Core.Path.{_≡_};
 ghost use lib.IntN.{pos, _-ℤ_};
 ghost use lib.Signed.{_≤ℤ_};
-ghost use Rattle.rules_watch.specs.Rules.{settled, judged, outcome};
-ghost use Rattle.rules_watch.specs.Judging.{verdict, latest};
-use crate::Answer;
-use crate::settings::Settings;
+ghost use Rattle.rules_watch.specs.Rules.{settled, followed, outcome};
+ghost use Rattle.rules_watch.specs.Inner.{latest};
+use crate::Pulse;
+use crate::settings::WatchSettings;
 use crate::stamps::apart;
 use crate::stamps::outside;
 use crate::window::Sample;
+use numbers::refusal::Refusal;
 
-// A taken sample comes with the origin that then holds.
-pub enum Verdict {
-    Refused,
-    Wipes(Answer),
-    Takes(i64, Sample),
+// A taken sample comes with the origin that then holds. The rules' definitions are over this type too.
+pub enum Outcome {
+    Refuse(Refusal),
+    Wipe(Pulse),
+    Take(i64, Sample),
 }
 
 // JUMP, or taken.
-fn settle(settings: Settings, origin: i64, previous: Sample, reference: i64, y: i32) -> Verdict
+fn settle(settings: WatchSettings, origin: i64, previous: Sample, reference: i64, y: i32) -> Outcome
     requires { ⌜ pos 0 ≤ℤ reference ⌝ }
-    ensures { λ r. ⌜ r ≡ verdict (settled settings origin previous reference y) ⌝ }
+    ensures { λ r. ⌜ r ≡ settled settings origin previous reference y ⌝ }
 {
     let moved = apart(y as i64, previous.y as i64);
     if (settings.jump as u64) < moved {
-        return Verdict::Wipes(Answer::Jump);
+        return Outcome::Wipe(Pulse::Jump);
     }
-    let late = apart(reference - 1000000000, previous.reference);
+    let late = apart(reference - 1_000_000_000, previous.reference);
     let valid = settings.calm(moved, late);
-    Verdict::Takes(
+    Outcome::Take(
         origin,
         Sample {
             reference,
@@ -40,15 +41,21 @@ fn settle(settings: Settings, origin: i64, previous: Sample, reference: i64, y: 
 
 // A sample after another: BACK, RANGE, then as above. `offset` is clock - reference. Whatever the origin is, y is made only once it is known
 // to be below a second.
-fn follow(settings: Settings, origin: i64, previous: Sample, reference: i64, offset: i64) -> Verdict
+fn follow(
+    settings: WatchSettings,
+    origin: i64,
+    previous: Sample,
+    reference: i64,
+    offset: i64,
+) -> Outcome
     requires { ⌜ pos 0 ≤ℤ reference ⌝ }
-    ensures { λ r. ⌜ r ≡ verdict (judged settings origin previous reference (offset -ℤ origin)) ⌝ }
+    ensures { λ r. ⌜ r ≡ followed settings origin previous reference (offset -ℤ origin) ⌝ }
 {
     if reference <= previous.reference {
-        return Verdict::Wipes(Answer::Back);
+        return Outcome::Wipe(Pulse::Back);
     }
-    if 1000000000 <= apart(offset, origin) {
-        return Verdict::Wipes(Answer::Range);
+    if 1_000_000_000 <= apart(offset, origin) {
+        return Outcome::Wipe(Pulse::Range);
     }
     let y = offset - origin;
     settle(settings, origin, previous, reference, y as i32)
@@ -56,24 +63,24 @@ fn follow(settings: Settings, origin: i64, previous: Sample, reference: i64, off
 
 // A second pulse after the sample `previous`, or the first one where the window is empty.
 pub(crate) fn judge(
-    settings: Settings,
+    settings: WatchSettings,
     empty: bool,
     origin: i64,
     previous: Sample,
     reference: i64,
     clock: i64,
-) -> Verdict
-    ensures { λ r. ⌜ r ≡ verdict (outcome settings (latest empty origin previous) reference clock) ⌝ }
+) -> Outcome
+    ensures { λ r. ⌜ r ≡ outcome settings (latest empty origin previous) reference clock ⌝ }
 {
     if outside(reference) {
-        return Verdict::Refused;
+        return Outcome::Refuse(Refusal::Tick);
     }
     if outside(clock) {
-        return Verdict::Refused;
+        return Outcome::Refuse(Refusal::Tick);
     }
     let offset = clock - reference;
     if empty {
-        return Verdict::Takes(
+        return Outcome::Take(
             offset,
             Sample {
                 reference,

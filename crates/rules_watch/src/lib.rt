@@ -1,5 +1,5 @@
-// The drift watch of document 01: a sample at each second pulse, the window of the last W taken, and the line through its valid samples.
-mod judging;
+// The drift watch: a sample at each second pulse, the window of the last W taken, and the line through its valid samples.
+pub mod judging;
 pub mod settings;
 mod stamps;
 pub mod totals;
@@ -7,16 +7,16 @@ pub mod window;
 
 ghost use mathlib.Core.Path.{_≡_};
 ghost use Prim.Native.Nat.{_+_, min};
-ghost use Rattle.rules_watch.specs.Watch.{freshWatch, accepted, takes, drift};
-use judging::Verdict;
+ghost use Rattle.rules_watch.specs.Watch.{freshWatch, sampleTaken, takenOf, watchLine};
+use judging::Outcome;
 use judging::judge;
 use numbers::refusal::Refusal;
-use settings::Settings;
+use settings::WatchSettings;
 use totals::Line;
 use window::Sample;
 use window::Window;
 
-// A fresh watch is also what a wipe leaves.
+// A fresh watch is also what the unit puts in its place at a wipe.
 #[repr(C)]
 pub struct Watch {
     pub window: Window,
@@ -24,9 +24,8 @@ pub struct Watch {
     pub taken: u8, // samples taken since the wipe, as far as the widest holdoff asks: 10 at most
 }
 
-// What becomes of a sample. Back, Range and Jump wipe.
-pub enum Answer {
-    Refused(Refusal),
+// What is said of a pulse. Back, Range and Jump wipe: the watch stays as it is, for the unit to empty with the rest.
+pub enum Pulse {
     Valid,
     Invalid,
     Back,
@@ -34,7 +33,12 @@ pub enum Answer {
     Jump,
 }
 
-// The watch stands first: with a small field before it a copy of the window was made in pieces.
+pub enum Answer {
+    Refused(Refusal),
+    Says(Pulse),
+}
+
+// The watch comes first: with a small field before it a copy of the window was made in pieces.
 pub struct Taken {
     pub watch: Watch,
     pub answer: Answer,
@@ -64,8 +68,8 @@ impl Watch {
     }
 
     // The sample enters the window.
-    fn accept(self, settings: Settings, origin: i64, s: Sample) -> Taken
-        ensures { λ r. ⌜ r ≡ accepted settings self origin s ⌝ }
+    fn take_sample(self, settings: WatchSettings, origin: i64, s: Sample) -> Taken
+        ensures { λ r. ⌜ r ≡ sampleTaken settings self origin s ⌝ }
     {
         let size = settings.size();
         let window = self.window.push(s, size);
@@ -77,20 +81,20 @@ impl Watch {
         };
         if s.valid {
             Taken {
-                answer: Answer::Valid,
+                answer: Answer::Says(Pulse::Valid),
                 watch,
             }
         } else {
             Taken {
-                answer: Answer::Invalid,
+                answer: Answer::Says(Pulse::Invalid),
                 watch,
             }
         }
     }
 
-    // A second pulse: its stamp by the free oscillator, the reference, and by the steered clock.
-    pub fn take(self, settings: Settings, reference: i64, clock: i64) -> Taken
-        ensures { λ r. ⌜ r ≡ takes settings self reference clock ⌝ }
+    // A second pulse (rule 9.1): its stamp by the free oscillator, the reference, and by the steered clock.
+    pub fn take(self, settings: WatchSettings, reference: i64, clock: i64) -> Taken
+        ensures { λ r. ⌜ r ≡ takenOf settings self reference clock ⌝ }
     {
         let empty = self.window.len == 0;
         match judge(
@@ -101,21 +105,21 @@ impl Watch {
             reference,
             clock,
         ) {
-            Verdict::Refused => Taken {
-                answer: Answer::Refused(Refusal::Tick),
+            Outcome::Refuse(refusal) => Taken {
+                answer: Answer::Refused(refusal),
                 watch: self,
             },
-            Verdict::Wipes(answer) => Taken {
-                answer,
-                watch: Watch::fresh(),
+            Outcome::Wipe(pulse) => Taken {
+                answer: Answer::Says(pulse),
+                watch: self,
             },
-            Verdict::Takes(origin, s) => self.accept(settings, origin, s),
+            Outcome::Take(origin, s) => self.take_sample(settings, origin, s),
         }
     }
 
     // The line, once it is due.
-    pub fn line(self, settings: Settings) -> Drift
-        ensures { λ r. ⌜ r ≡ drift settings self ⌝ }
+    pub fn line(self, settings: WatchSettings) -> Drift
+        ensures { λ r. ⌜ r ≡ watchLine settings self ⌝ }
     {
         if self.taken < settings.holdoff {
             return Drift::Refused(Refusal::NotReady);

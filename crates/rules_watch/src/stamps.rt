@@ -12,7 +12,7 @@ pub(crate) fn outside(stamp: i64) -> bool
     if stamp < 0 {
         true
     } else {
-        4611686018427387904 <= stamp
+        4_611_686_018_427_387_904 <= stamp
     }
 }
 

@@ -3,7 +3,7 @@ ghost use mathlib.Core.Path.{_≡_};
 ghost use Prim.Native.Nat.{_+_, _≤_, _<_};
 ghost use lib.IntN.{pos};
 ghost use lib.Signed.{_<ℤ_};
-ghost use Rattle.rules_watch.specs.Totals.{none, withPoint, Over, lineOf, overOf};
+ghost use Rattle.rules_watch.specs.Inner.{noTotals, withPoint, Over, lineOf, overOf};
 use numbers::units::Position;
 
 // n, sum x, sum x², sum y and sum xy. Over 128 samples in a window of 128 places each stays far within an i64.
@@ -28,7 +28,7 @@ pub struct Line {
 
 impl Totals {
     pub(crate) fn none() -> Totals
-        ensures { λ r. ⌜ r ≡ none ⌝ }
+        ensures { λ r. ⌜ r ≡ noTotals ⌝ }
     {
         Totals {
             n: 0,
@@ -55,7 +55,7 @@ impl Totals {
         }
     }
 
-    // The line. The numerator of the slope and 1,000 times the denominator stay below 2^53, so that one division rounds once.
+    // The line. Both numbers of its slope in ppm are under 2^53 (rule 12.7), so that one division rounds once.
     pub(crate) fn line(self) -> Line
         requires { ⌜ Over 128 self × (pos 0 <ℤ overOf self) ⌝ }
         ensures { λ r. ⌜ r ≡ lineOf self ⌝ }

@@ -1,8 +1,9 @@
 // The window of the last W taken samples, as a ring: `next` is written next, and the last `len` written are held.
 ghost use mathlib.Core.Path.{_≡_};
 ghost use Prim.Native.Nat.{_+_, _<_, min};
-ghost use Rattle.rules_watch.specs.Window.{held, emptied, pushed, newestOf};
-ghost use Rattle.rules_watch.specs.Totals.{totalsOf, pointsOf, withSample, Over};
+ghost use Rattle.rules_watch.specs.Window.{samplesIn, freshWindow, pushed};
+ghost use Rattle.rules_watch.specs.Totals.{pointsOf};
+ghost use Rattle.rules_watch.specs.Inner.{newestOf, totalsOf, withSample, Over};
 use crate::totals::Totals;
 use numbers::units::Position;
 
@@ -48,7 +49,7 @@ fn add_valid(sum: Totals, x: Position, s: Sample) -> Totals
 impl Window {
     // Empty, with its memory cleared.
     pub(crate) fn fresh() -> Window
-        ensures { λ r. ⌜ r ≡ emptied ⌝ }
+        ensures { λ r. ⌜ r ≡ freshWindow ⌝ }
     {
         Window {
             samples: [Sample {
@@ -74,7 +75,7 @@ impl Window {
         self
     }
 
-    // The sample taken last; of an empty window what stands in its place.
+    // The sample taken last; of an empty window whatever is in its place.
     pub(crate) fn newest(self) -> Sample
         ensures { λ r. ⌜ r ≡ newestOf self ⌝ }
     {
@@ -84,7 +85,7 @@ impl Window {
 
     // The totals over the valid samples, each at its place in the window.
     pub(crate) fn totals(self) -> Totals
-        ensures { λ r. ⌜ r ≡ totalsOf (pointsOf (held self)) ⌝ }
+        ensures { λ r. ⌜ r ≡ totalsOf (pointsOf (samplesIn self)) ⌝ }
         ensures { λ r. ⌜ Over 128 r ⌝ }
     {
         let samples = self.samples;

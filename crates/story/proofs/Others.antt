@@ -9,91 +9,59 @@ use borrow.Author.Tests.{ltb-false}
 use lib.Dec.{leb, ltb}
 use lib.IntN.{ℤ, pos, natAbs, _-ℤ_}
 use lib.Signed.{leZ}
-use Rattle.numbers.specs.declared.refusal.Refusal.the-variants.{Now}
+use Rattle.numbers.specs.declared.refusal.Refusal.the-variants.{Tick}
 use Rattle.numbers.specs.declared.units.Ppb.{Ppb}
 use Rattle.numbers.specs.declared.stamp.Stamp.{Stamp}
+use Rattle.numbers.specs.Grounds.{firstOf}
+use Rattle.numbers.specs.Orders.{ofTime}
 use Rattle.wire_layout.specs.declared.message.Header.{Header}
 use Rattle.wire_layout.specs.declared.message.Offer.{Offer}
 use Rattle.wire_layout.specs.declared.message.Body.the-variants as bodies
 use Rattle.rules_masters.specs.declared.table.Table.{Table}
 use Rattle.rules_masters.specs.declared.chosen.Chosen.{Chosen}
+use Rattle.rules_masters.specs.declared.chosen.Decision.the-variants.{Same, Changed}
 use Rattle.rules_masters.specs.declared.record.Announce.{Announce}
 use Rattle.rules_masters.specs.declared.admission.Answer.{Answer as Admission}
 use Rattle.rules_masters.specs.declared.admission.Answer.the-variants as admission
 use Rattle.rules_masters.specs.Records.{intervalOf}
-use Rattle.rules_masters.specs.Holding.{sameMasterOf}
+use Rattle.rules_masters.specs.Holding.{chosenAt, sameMasterOf, decisionOf}
 use Rattle.rules_servo.specs.Shows.{isHoldover, isTracking}
 use Rattle.rules_servo.specs.declared.shown.Shown.the-variants.{Holdover, Tracking, Adjusting}
-use Rattle.rules_watch.specs.declared.settings.Settings.{Settings as WatchSettings}
+use Rattle.rules_watch.specs.declared.settings.WatchSettings.{WatchSettings}
 use Rattle.rules_watch.specs.declared.window.Sample.{Sample}
-use Rattle.rules_watch.specs.declared.Answer.the-variants as pulse
+use Rattle.rules_watch.specs.declared.Pulse.the-variants as pulse
+use Rattle.rules_watch.specs.declared.judging.Outcome.{Outcome}
+use Rattle.rules_watch.specs.declared.judging.Outcome.the-variants.{Refuse, Wipe, Take}
 use Rattle.rules_watch.specs.declared.Drift.{Drift}
 use Rattle.rules_watch.specs.declared.Drift.the-variants as drift
-use Rattle.rules_watch.specs.Rules.{Since, Pulse as Given, Outcome, refuse, wipe, take, outcome, onLast, judged, sampleAfter, outsideOf, far, lineSince, became as sinceAfter}
+use Rattle.rules_watch.specs.Rules.{Since, Stamps as Given, outcome, onLast, sampleAfter, outsideOf, apart, lineSince, sinceBy}
+use Rattle.rules_watch.proofs.Outcomes.{outcome-is}
+use Rattle.rules_watch.proofs.Story.{Proper, proper}
 use Rattle.rules_settings.specs.declared.Settings.{Settings}
 use Rattle.unit_core.specs.declared.calls.Call.{Call}
 use Rattle.unit_core.specs.declared.calls.Call.the-variants as calls
 use Rattle.unit_core.specs.declared.calls.Answer.{Answer}
 use Rattle.unit_core.specs.declared.calls.Answer.the-variants as answers
-use Rattle.unit_core.specs.Effects.{Stays, keeps, goes, takes, wipes}
-use Rattle.unit_core.specs.Choosing.{admission as admitting, choosing, holds, times, chooses as choosesAnew, admits, announces as announcing, masterAt}
-use Rattle.unit_core.specs.Ticking.{ticks, lineBy}
+use Rattle.unit_core.specs.Effects.{Stays, keeps, goes, takes, wipes, unless}
 use Rattle.unit_core.specs.Showing.{portOf, showsOf}
-use Rattle.unit.specs.Story.{Past, became}
+use Rattle.unit_choosing.specs.Choosing.{admission as admitting, withChosen, holds, timePasses, chooses as choosesAnew, admits, announces as announcing}
+use Rattle.unit_ticking.specs.Ticking.{ticks, lineBy}
+use Rattle.unit.specs.Machine.{Past, pastBy}
 use Rattle.story_masters.specs.Announces.{Log as SeatLog, came, lastNow as lastSeen}
-use Rattle.story_masters.specs.Places.{answer as seatAnswer, chosen as chosenAt}
-use Rattle.story_masters.specs.History.{entered, lastAfter, log as seatsAfter}
+use Rattle.story_masters.specs.Places.{answer as seatAnswer, chosenIn}
+use Rattle.story_masters.specs.History.{logBy, lastAfter, log as seatsAfter}
 use Rattle.story_masters.proofs.Refines.{Tells as SeatTells, step as seat-step, chooses as seat-chooses}
 use Rattle.story_lists.specs.Reading.{all, since}
-use Rattle.story.specs.Book.{Book, line, says, aNow, aPulse, aRequest, anEntry, isSome, chosen, faulty, sequence, seats, lastMeasured, samples, sinceWipe, yAfter, sampleOf, aheadFirst, samplesOf, wipeCount}
-use Rattle.story.specs.Saying.{chooses, seated, pulsed, overdue, answer}
-use Rattle.story.specs.Tale.{written}
+use Rattle.story.specs.Book.{Book, entry, aNow, aPulse, aRequestCall, anExchangeEntry, isSome, chosen, faulty, sequence, seats, lastMeasured, samples, sinceWipe, yAfter, sampleOf, aheadFirst, samplesOf, wipeCount}
+use Rattle.story.specs.Saying.{unlessBarred, choiceAnswer, admissionAnswer, pulseAnswer, overdue, answer}
+use Rattle.story.specs.Tale.{bookWith}
 use Rattle.story.proofs.Tells.{Tells, Agrees}
 use Rattle.story.proofs.Exchanging.{wiped-tells}
 use Rattle.story.proofs.Calling.{seats-now}
 
--- a pulse wipes by BACK, RANGE or JUMP
-abbrev Proper : Outcome → Type 0
-Proper refuse = Unit
-Proper (wipe (pulse.Refused n)) = ⊥
-Proper (wipe pulse.Valid) = ⊥
-Proper (wipe pulse.Invalid) = ⊥
-Proper (wipe pulse.Back) = Unit
-Proper (wipe pulse.Range) = Unit
-Proper (wipe pulse.Jump) = Unit
-Proper (take origin x) = Unit
-
-proper-judged : (t : WatchSettings) (origin : ℤ) (previous : Sample) (r y : ℤ) → Proper (judged t origin previous r y)
-proper-judged t origin previous r y = go (leZ r (previous .reference)) (leb 1000000000 (natAbs y)) (ltb (t .jump) (far y (previous .y)))
-  where
-    go : (a b c : Bool) → Proper (cond a (wipe pulse.Back) (cond b (wipe pulse.Range) (cond c (wipe pulse.Jump) (take origin (sampleAfter t previous r y)))))
-    go true b c = tt
-    go false true c = tt
-    go false false true = tt
-    go false false false = tt
-
-proper-last : (x : Outcome) (f : Sample → Outcome) → Proper x → ((z : Sample) → Proper (f z)) → (l : List Sample) → Proper (onLast x f l)
-unfolding onLast
-proper-last x f p q [] = p
-proper-last x f p q (a ∷ []) = q a
-proper-last x f p q (a ∷ c ∷ l) = proper-last x f p q (c ∷ l)
-
-proper : (t : WatchSettings) (z : Since) (r c : ℤ) → Proper (outcome t z r c)
-proper t z r c = go (outsideOf r || outsideOf c)
-  where
-    f : Sample → Outcome
-    f previous = judged t (z .origin) previous r (c -ℤ r -ℤ z .origin)
-
-    first : Outcome
-    first = take (c -ℤ r) (record { reference = r; y = pos 0; valid = true })
-
-    go : (b : Bool) → Proper (cond b refuse (onLast first f (z .samples)))
-    go true = tt
-    go false = proper-last first f tt (λ v. proper-judged t (z .origin) v r (c -ℤ r -ℤ z .origin)) (z .samples)
-
--- a pulse that is taken is the sample of document 01
-abbrev sinceBy : WatchSettings → List Given → Since
-sinceBy t l = record { origin = aheadFirst l; samples = samplesOf t l }
+-- a pulse that is taken is the sample that the pulses before it make of it
+abbrev sinceOfPulses : WatchSettings → List Given → Since
+sinceOfPulses t l = record { origin = aheadFirst l; samples = samplesOf t l }
 
 on-last : (x : Outcome) (f : Sample → Outcome) (l : List Sample) (z : Sample) → onLast x f (l ++ (z ∷ [])) ≡ f z
 unfolding onLast
@@ -101,16 +69,18 @@ on-last x f [] z = refl
 on-last x f (a ∷ []) z = refl
 on-last x f (a ∷ b ∷ l) z = on-last x f (b ∷ l) z
 
-pulse-taken : (t : WatchSettings) (l : List Given) (r c o : ℤ) (x : Sample) → outcome t (sinceBy t l) r c ≡ take o x
-    → sinceAfter (sinceBy t l) (take o x) ≡ sinceBy t (record { reference = r; clock = c } ∷ l)
+pulse-taken : (t : WatchSettings) (l : List Given) (r c o : ℤ) (x : Sample) → outcome t (sinceOfPulses t l) r c ≡ Take o x
+    → sinceBy (sinceOfPulses t l) (Take o x) ≡ sinceOfPulses t (record { reference = r; clock = c } ∷ l)
 unfolding aheadFirst samplesOf onLast
-pulse-taken t [] r c o x e = go (outsideOf r || outsideOf c) e
+pulse-taken t [] r c o x e = go (outsideOf r || outsideOf c) (sym (outcome-is t (sinceOfPulses t []) r c) ∙ e)
   where
-    go : (i : Bool) → cond i refuse (take (c -ℤ r) (record { reference = r; y = pos 0; valid = true })) ≡ take o x
-        → record { origin = o; samples = x ∷ [] } ≡ sinceBy t (record { reference = r; clock = c } ∷ [])
+    go : (i : Bool) → cond i (Refuse Tick) (Take (c -ℤ r) (record { reference = r; y = pos 0; valid = true })) ≡ Take o x
+        → record { origin = o; samples = x ∷ [] } ≡ sinceOfPulses t (record { reference = r; clock = c } ∷ [])
     go true f = absurd (let z : _≡_ {A = ℕ} 0 1 = cc in omega arith)
     go false f = let u : o ≡ c -ℤ r = cc in let v : x ≡ record { reference = r; y = pos 0; valid = true } = cc in rw (u, v)
-pulse-taken t (q ∷ l) r c o x e = go (outsideOf r || outsideOf c) (leZ r (q .reference)) (leb 1000000000 (natAbs Y)) (ltb (t .jump) (far Y (yAfter q l))) (rw (on-last _ _ (samplesOf t l) (sampleOf t q l)) at e)
+pulse-taken t (q ∷ l) r c o x e =
+    go (outsideOf r || outsideOf c) (leZ r (q .reference)) (leb 1000000000 (natAbs Y)) (ltb (t .jump) (apart Y (yAfter q l)))
+    (rw (on-last _ _ (samplesOf t l) (sampleOf t q l)) at (sym (outcome-is t (sinceOfPulses t (q ∷ l)) r c) ∙ e))
   where
     Y : ℤ
     Y = c -ℤ r -ℤ aheadFirst (q ∷ l)
@@ -119,8 +89,8 @@ pulse-taken t (q ∷ l) r c o x e = go (outsideOf r || outsideOf c) (leZ r (q .r
     P = record { reference = r; clock = c }
 
     go : (i j k n : Bool)
-        → cond i refuse (cond j (wipe pulse.Back) (cond k (wipe pulse.Range) (cond n (wipe pulse.Jump) (take (aheadFirst (q ∷ l)) (sampleAfter t (sampleOf t q l) r Y))))) ≡ take o x
-        → record { origin = o; samples = samplesOf t (q ∷ l) ++ (x ∷ []) } ≡ sinceBy t (P ∷ q ∷ l)
+        → cond i (Refuse Tick) (cond j (Wipe pulse.Back) (cond k (Wipe pulse.Range) (cond n (Wipe pulse.Jump) (Take (aheadFirst (q ∷ l)) (sampleAfter t (sampleOf t q l) r Y))))) ≡ Take o x
+        → record { origin = o; samples = samplesOf t (q ∷ l) ++ (x ∷ []) } ≡ sinceOfPulses t (P ∷ q ∷ l)
     go true j k n f = absurd (let z : _≡_ {A = ℕ} 0 1 = cc in omega arith)
     go false true k n f = absurd (let z : _≡_ {A = ℕ} 0 1 = cc in omega arith)
     go false false true n f = absurd (let z : _≡_ {A = ℕ} 0 1 = cc in omega arith)
@@ -153,22 +123,22 @@ module _ (s : Settings) (b : Book) (p : Past) (h : Tells s b p) where
   K = p .stays
 
   -- ---- a choice
-  module _ (call : Call) (now : ℕ) (t : Table) (nows : (u : Answer) → aNow (line call u) ≡ some now) (pulses : (u : Answer) → aPulse (line call u) ≡ none)
-      (requests : (u : Answer) → aRequest (line call u) ≡ none) (entries : (u : Answer) → anEntry (s .own) (line call u) ≡ none)
-      (st : (u : Answer) → SeatTells (intervalOf (s .announce)) (seats s (line call u ∷ b)) (record { table = t; last = now })) where
-    chosen-told : (c d : Chosen) → c ≡ d → Agrees s b p call t (cond (sameMasterOf (chosen b) d) (answers.Chose d) (answers.Changed d)) (holds K (p .ran) now c)
+  module _ (call : Call) (now : ℕ) (t : Table) (nows : (u : Answer) → aNow (entry call u) ≡ some now) (pulses : (u : Answer) → aPulse (entry call u) ≡ none)
+      (requests : (u : Answer) → aRequestCall (entry call u) ≡ none) (entries : (u : Answer) → anExchangeEntry (s .own) (entry call u) ≡ none)
+      (st : (u : Answer) → SeatTells (intervalOf (s .announce)) (seats s (entry call u ∷ b)) (record { table = t; last = now })) where
+    chosen-told : (c d : Chosen) → c ≡ d → Agrees s b p call t (answers.Choice (decisionOf (chosen b) d)) (holds K (p .progress) now c)
     unfolding all since
     chosen-told c d e =
-        subst (λ (i : Chosen). Agrees s b p call t (cond (sameMasterOf (chosen b) i) (answers.Chose i) (answers.Changed i)) (holds K (p .ran) now c)) e
-        (subst (λ (k : Stays). Agrees s b p call t (cond (sameMasterOf (k .chosen) c) (answers.Chose c) (answers.Changed c)) (holds K (p .ran) now c)) (h .stays)
+        subst (λ (i : Chosen). Agrees s b p call t (answers.Choice (decisionOf (chosen b) i)) (holds K (p .progress) now c)) e
+        (subst (λ (k : Stays). Agrees s b p call t (answers.Choice (decisionOf (k .chosen) c)) (holds K (p .progress) now c)) (h .stays)
         (go (sameMasterOf (K .chosen) c)))
       where
-        stay : (u : Answer) → choosing K now c ≡ record { now = now; chosen = c; faulty = faulty b; sequence = sequence b }
-        stay u = ap (λ (k : Stays). choosing k now c) (h .stays)
+        stay : (u : Answer) → withChosen K now c ≡ record { now = now; chosen = c; faulty = faulty b; sequence = sequence b }
+        stay u = ap (λ (k : Stays). withChosen k now c) (h .stays)
 
-        go : (i : Bool) → Agrees s b p call t (cond i (answers.Chose c) (answers.Changed c)) (cond i (goes (answers.Chose c) (choosing K now c) (p .ran)) (wipes (answers.Changed c) (choosing K now c)))
+        go : (i : Bool) → Agrees s b p call t (answers.Choice (cond i (Same c) (Changed c))) (cond i (goes (answers.Choice (Same c)) (withChosen K now c) (p .progress)) (wipes (answers.Choice (Changed c)) (withChosen K now c)))
         go true =
-            let u = answers.Chose c in
+            let u = answers.Choice (Same c) in
             record {
               says = refl;
               tells =
@@ -182,7 +152,7 @@ module _ (s : Settings) (b : Book) (p : Past) (h : Tells s b p) where
                     count = h .count;
                   };
             }
-        go false = let u = answers.Changed c in wiped-tells s b p h call t u (choosing K now c) refl refl (rw (nows u, requests u) (stay u)) (st u)
+        go false = let u = answers.Choice (Changed c) in wiped-tells s b p h call t u (withChosen K now c) refl refl (rw (nows u, requests u) (stay u)) (st u)
 
   -- ---- an Announce
   module _ (now : ℕ) (t2 : Stamp) (hd : Header) (stamp : Stamp) (offer : Offer) where
@@ -198,69 +168,64 @@ module _ (s : Settings) (b : Book) (p : Past) (h : Tells s b p) where
     abbrev Said : Admission
     Said = seatAnswer (s .domain) (s .own) (s .announce) (seats s b) M now
 
-    pub announce-told : Agrees s b p Announced T (seated s b now M Said) (announcing s K (p .ran) (p .table) now M)
+    pub announce-told : Agrees s b p Announced T (admissionAnswer s b now M Said) (announcing s K (p .progress) (p .table) now M)
     unfolding announcing choosesAnew all seatsAfter
     announce-told =
         let d = seat-step (s .domain) (s .own) (s .announce) (seats s b) (record { table = p .table; last = K .now }) (h .seats) M now in
-        subst (λ (a : Admission). Agrees s b p Announced T (seated s b now M Said) (admits s K (p .ran) T now a)) (sym (d .says))
-        (go Said refl (subst (λ (a : Admission). SeatTells (intervalOf (s .announce)) (entered (seats s b) now M Said) (record { table = T; last = lastAfter (K .now) now a })) (d .says) (d .tells)))
+        subst (λ (a : Admission). Agrees s b p Announced T (admissionAnswer s b now M Said) (admits s K (p .progress) T now a)) (sym (d .says))
+        (go Said refl (subst (λ (a : Admission). SeatTells (intervalOf (s .announce)) (logBy (seats s b) now M Said) (record { table = T; last = lastAfter (K .now) now a })) (d .says) (d .tells)))
       where
-        told : (l : SeatLog) → lastSeen l ≤ now → SeatTells (intervalOf (s .announce)) l (record { table = T; last = now }) → entered (seats s b) now M Said ≡ l
-            → Agrees s b p Announced T (chooses s b now l) (choosesAnew s K (p .ran) T now)
+        told : (l : SeatLog) → lastSeen l ≤ now → SeatTells (intervalOf (s .announce)) l (record { table = T; last = now }) → logBy (seats s b) now M Said ≡ l
+            → Agrees s b p Announced T (choiceAnswer s b now l) (choosesAnew s K (p .progress) T now)
         told l later st e =
-            chosen-told Announced now T (λ u. refl) (λ u. refl) (λ u. refl) (λ u. refl) (λ u. rw e st) (masterAt s T now) (chosenAt (s .announce) l now)
+            chosen-told Announced now T (λ u. refl) (λ u. refl) (λ u. refl) (λ u. refl) (λ u. rw e st) (chosenAt (T .records) now (s .announce)) (chosenIn (s .announce) l now)
             (seat-chooses (s .domain) (s .own) (s .announce) l (record { table = T; last = now }) st now later)
 
-        go : (a : Admission) → Said ≡ a → SeatTells (intervalOf (s .announce)) (entered (seats s b) now M a) (record { table = T; last = lastAfter (K .now) now a })
-            → Agrees s b p Announced T (seated s b now M a) (admits s K (p .ran) T now a)
+        go : (a : Admission) → Said ≡ a → SeatTells (intervalOf (s .announce)) (logBy (seats s b) now M a) (record { table = T; last = lastAfter (K .now) now a })
+            → Agrees s b p Announced T (admissionAnswer s b now M a) (admits s K (p .progress) T now a)
         go (admission.Refused n) e st =
             record {
               says = refl;
               tells =
                   record { stays = h .stays; seats = st; exchange = h .exchange; servo = h .servo; measured = h .measured; since = h .since; count = h .count };
             }
-        go (admission.Renewed i) e st = told (came i now M ∷ seats s b) (omega arith) st (ap (λ (a : Admission). entered (seats s b) now M a) e)
-        go (admission.Entered i) e st = told (came i now M ∷ seats s b) (omega arith) st (ap (λ (a : Admission). entered (seats s b) now M a) e)
+        go (admission.Renewed i) e st = told (came i now M ∷ seats s b) (omega arith) st (ap (λ (a : Admission). logBy (seats s b) now M a) e)
+        go (admission.Entered i) e st = told (came i now M ∷ seats s b) (omega arith) st (ap (λ (a : Admission). logBy (seats s b) now M a) e)
 
   -- ---- the time call
-  pub time-told : (now : ℕ) → Agrees s b p (calls.Time now) (p .table) (answer s b (calls.Time now)) (times s K (p .ran) (p .table) now)
-  unfolding answer times choosesAnew all
+  pub time-told : (now : ℕ) → Agrees s b p (calls.Time now) (p .table) (answer s b (calls.Time now)) (timePasses s K (p .progress) (p .table) now)
+  unfolding answer timePasses choosesAnew all firstOf
   time-told now =
-      subst (λ (k : Stays). Agrees s b p (calls.Time now) (p .table) (cond (ltb now (k .now)) (answers.Refused Now) (chooses s b now (seats s b))) (times s K (p .ran) (p .table) now)) (h .stays)
+      subst (λ (k : Stays). Agrees s b p (calls.Time now) (p .table) (unlessBarred (firstOf (ofTime false (ltb now (k .now)))) (choiceAnswer s b now (seats s b))) (timePasses s K (p .progress) (p .table) now)) (h .stays)
       (go (ltb now (K .now)) refl)
     where
       go : (i : Bool) → ltb now (K .now) ≡ i
-          → Agrees s b p (calls.Time now) (p .table) (cond i (answers.Refused Now) (chooses s b now (seats s b))) (cond i (keeps (answers.Refused Now)) (choosesAnew s K (p .ran) (p .table) now))
+          → Agrees s b p (calls.Time now) (p .table) (unlessBarred (firstOf (ofTime false i)) (choiceAnswer s b now (seats s b))) (unless (firstOf (ofTime false i)) (choosesAnew s K (p .progress) (p .table) now))
       go true e = record { says = refl; tells = h }
       go false e =
-          chosen-told (calls.Time now) now (p .table) (λ u. refl) (λ u. refl) (λ u. refl) (λ u. refl) (λ u. seats-now s b p h now e) (masterAt s (p .table) now) (chosenAt (s .announce) (seats s b) now)
+          chosen-told (calls.Time now) now (p .table) (λ u. refl) (λ u. refl) (λ u. refl) (λ u. refl) (λ u. seats-now s b p h now e) (chosenAt (p .table .records) now (s .announce)) (chosenIn (s .announce) (seats s b) now)
           (seat-chooses (s .domain) (s .own) (s .announce) (seats s b) (record { table = p .table; last = K .now }) (h .seats) now (omega (arith, h .seats .last, ltb-false now (K .now) e)))
 
   -- ---- the second pulse
-  pulse-told : (r c : ℤ) (o : Outcome) → outcome (s .watch) (p .since) r c ≡ o → Proper o → Agrees s b p (calls.Tick r c) (p .table) (pulsed s b o) (ticks K o)
+  pulse-told : (r c : ℤ) (o : Outcome) → outcome (s .watch) (p .since) r c ≡ o → Proper o → Agrees s b p (calls.Tick r c) (p .table) (pulseAnswer s b o) (ticks K o)
   unfolding all since aheadFirst samplesOf
-  pulse-told r c refuse e q = record { says = refl; tells = h }
-  pulse-told r c (wipe (pulse.Refused n)) e q = absurd q
-  pulse-told r c (wipe pulse.Valid) e q = absurd q
-  pulse-told r c (wipe pulse.Invalid) e q = absurd q
-  pulse-told r c (wipe pulse.Back) e q = wiped-tells s b p h (calls.Tick r c) (p .table) answers.TickBack K refl refl (h .stays) (h .seats)
-  pulse-told r c (wipe pulse.Range) e q = wiped-tells s b p h (calls.Tick r c) (p .table) answers.Range K refl refl (h .stays) (h .seats)
-  pulse-told r c (wipe pulse.Jump) e q = wiped-tells s b p h (calls.Tick r c) (p .table) answers.Jump K refl refl (h .stays) (h .seats)
-  pulse-told r c (take origin x) e q = record { says = refl; tells = go (x .valid) }
+  pulse-told r c (Refuse n) e q = record { says = refl; tells = h }
+  pulse-told r c (Wipe a) e q = wiped-tells s b p h (calls.Tick r c) (p .table) (answers.Watch a) K refl (rw q) (h .stays) (h .seats)
+  pulse-told r c (Take origin x) e q = record { says = refl; tells = go (x .valid) }
     where
-      taken : sinceAfter (p .since) (take origin x) ≡ sinceBy (s .watch) (record { reference = r; clock = c } ∷ all aPulse (sinceWipe b))
+      taken : sinceBy (p .since) (Take origin x) ≡ sinceOfPulses (s .watch) (record { reference = r; clock = c } ∷ all aPulse (sinceWipe b))
       taken =
-          ap (λ (z : Since). sinceAfter z (take origin x)) (h .since)
+          ap (λ (z : Since). sinceBy z (Take origin x)) (h .since)
           ∙ pulse-taken (s .watch) (all aPulse (sinceWipe b)) r c origin x (ap (λ (z : Since). outcome (s .watch) z r c) (sym (h .since)) ∙ e)
 
-      go : (v : Bool) → Tells s (written (calls.Tick r c) (cond v answers.Valid answers.Invalid) b) (became s p (p .table) (takes origin x))
+      go : (v : Bool) → Tells s (bookWith (calls.Tick r c) (answers.Watch (cond v pulse.Valid pulse.Invalid)) b) (pastBy s p (p .table) (takes origin x))
       go true = record { stays = h .stays; seats = h .seats; exchange = h .exchange; servo = h .servo; measured = h .measured; since = taken; count = h .count }
       go false = record { stays = h .stays; seats = h .seats; exchange = h .exchange; servo = h .servo; measured = h .measured; since = taken; count = h .count }
 
   pub tick-told : (r c : ℤ) → Agrees s b p (calls.Tick r c) (p .table) (answer s b (calls.Tick r c)) (ticks K (outcome (s .watch) (p .since) r c))
   unfolding answer
   tick-told r c =
-      subst (λ (z : Since). Agrees s b p (calls.Tick r c) (p .table) (pulsed s b (outcome (s .watch) z r c)) (ticks K (outcome (s .watch) (p .since) r c))) (h .since)
+      subst (λ (z : Since). Agrees s b p (calls.Tick r c) (p .table) (pulseAnswer s b (outcome (s .watch) z r c)) (ticks K (outcome (s .watch) (p .since) r c))) (h .since)
       (pulse-told r c (outcome (s .watch) (p .since) r c) refl (proper (s .watch) (p .since) r c))
 
   -- ---- the line
@@ -281,11 +246,11 @@ module _ (s : Settings) (b : Book) (p : Past) (h : Tells s b p) where
       (line-by (lineSince (s .watch) (p .since)) (p .count % 2 ^ 32)))
 
   -- ---- what is shown
-  shows-same : answers.Shows (showsOf K (p .ran) (p .count % 2 ^ 32)) ≡ answer s b calls.Show
+  shows-same : answers.Shows (showsOf K (p .progress) (p .count % 2 ^ 32)) ≡ answer s b calls.Show
   unfolding answer
   shows-same =
-      same-shown (h .stays) (measured-is (p .ran .measured) (p .ran .at) ∙ ap (λ (o : Option ℕ). isSome o) (h .measured))
-      (overdue-is (p .ran .measured) (p .ran .at) (K .now) ∙ ap (λ (o : Option ℕ). overdue s b o (K .now)) (h .measured) ∙ ap (λ (k : Stays). overdue s b (lastMeasured b) (k .now)) (h .stays))
+      same-shown (h .stays) (measured-is (p .progress .measured) (p .progress .at) ∙ ap (λ (o : Option ℕ). isSome o) (h .measured))
+      (overdue-is (p .progress .measured) (p .progress .at) (K .now) ∙ ap (λ (o : Option ℕ). overdue s b o (K .now)) (h .measured) ∙ ap (λ (k : Stays). overdue s b (lastMeasured b) (k .now)) (h .stays))
       (h .servo .held) (ap (λ (z : ℤ). record { 0 = z }) (h .servo .put)) (ap (λ (n : ℕ). n % 2 ^ 32) (h .count))
     where
       measured-is : (m : Bool) (t : ℕ) → m ≡ isSome (cond m (some t) none)
@@ -296,7 +261,7 @@ module _ (s : Settings) (b : Book) (p : Past) (h : Tells s b p) where
       overdue-is true t now = refl
       overdue-is false t now = refl
 
-  pub show-told : Agrees s b p calls.Show (p .table) (answer s b calls.Show) (keeps (answers.Shows (showsOf K (p .ran) (p .count % 2 ^ 32))))
+  pub show-told : Agrees s b p calls.Show (p .table) (answer s b calls.Show) (keeps (answers.Shows (showsOf K (p .progress) (p .count % 2 ^ 32))))
   unfolding answer all since
   show-told =
       record {

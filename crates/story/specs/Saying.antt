@@ -1,11 +1,15 @@
 -- The answer to a call, from the book alone.
-use mathlib.Core.List.{List, _∷_, _++_}
+use mathlib.Core.List.{List, [], _∷_}
 use mathlib.Core.Option.{Option, none, some}
-use mathlib.Core.Bool.{Bool, false, cond}
+use mathlib.Core.Bool.{Bool, true, false, cond, not}
 use Prim.Native.Nat.{ℕ, _+_, _%_, _^_}
-use lib.Dec.{ltb}
+use lib.Dec.{ltb, eqb}
 use lib.IntN.{ℤ}
-use Rattle.numbers.specs.declared.refusal.Refusal.the-variants.{Now, Kind, Tick as NoTick}
+use Rattle.numbers.specs.declared.refusal.Refusal.the-variants.{Kind}
+use Rattle.numbers.specs.declared.ruling.Ruling.{Ruling}
+use Rattle.numbers.specs.declared.ruling.Ruling.the-variants.{Clear, Barred}
+use Rattle.numbers.specs.Grounds.{firstOf}
+use Rattle.numbers.specs.Orders.{ofExchange, ofTime}
 use Rattle.numbers.specs.declared.stamp.Stamp.{Stamp}
 use Rattle.numbers.specs.declared.units.Ppb.{Ppb}
 use Rattle.wire_layout.specs.declared.message.Header.{Header}
@@ -14,88 +18,92 @@ use Rattle.wire_layout.specs.declared.message.Body.the-variants as bodies
 use Rattle.rules_masters.specs.declared.record.Announce.{Announce}
 use Rattle.rules_masters.specs.declared.admission.Answer.{Answer as Admission}
 use Rattle.rules_masters.specs.declared.admission.Answer.the-variants as admission
-use Rattle.rules_masters.specs.declared.admission.Verdict.{Verdict}
-use Rattle.rules_masters.specs.declared.admission.Verdict.the-variants.{Clear, Barred}
-use Rattle.rules_masters.specs.Admitting.{firstOf}
-use Rattle.rules_masters.specs.Holding.{sameMasterOf}
+use Rattle.rules_masters.specs.Holding.{isMaster, decisionOf}
 use Rattle.rules_exchange.specs.declared.Answer.{Answer as Told}
 use Rattle.rules_exchange.specs.declared.Answer.the-variants as tells
-use Rattle.rules_exchange.specs.Table.{Event, requested, sent, followUp, delayResp}
+use Rattle.rules_exchange.specs.declared.said.Said.{Said}
+use Rattle.rules_exchange.specs.Said.{wipesOf, verdictOf}
+use Rattle.rules_exchange.specs.Table.{Event, sync, requested, sent, followUp, delayResp}
+use Rattle.rules_exchange.specs.Events.{fieldOf}
 use Rattle.rules_servo.specs.declared.shown.Shown.{Shown}
 use Rattle.rules_servo.specs.declared.shown.Shown.the-variants.{Holdover, Tracking, Adjusting}
 use Rattle.rules_servo.specs.Shows.{isTracking}
 use Rattle.rules_servo.specs.Steps.{limitOf}
-use Rattle.rules_watch.specs.Rules.{Outcome, refuse, wipe, take, outcome, lineSince}
+use Rattle.rules_watch.specs.declared.Pulse.the-variants.{Valid, Invalid}
+use Rattle.rules_watch.specs.declared.judging.Outcome.{Outcome}
+use Rattle.rules_watch.specs.declared.judging.Outcome.the-variants.{Refuse, Wipe, Take}
+use Rattle.rules_watch.specs.Rules.{outcome, lineSince}
 use Rattle.rules_settings.specs.declared.Settings.{Settings}
 use Rattle.unit_core.specs.declared.calls.Call.{Call}
 use Rattle.unit_core.specs.declared.calls.Call.the-variants as calls
 use Rattle.unit_core.specs.declared.calls.Answer.{Answer}
 use Rattle.unit_core.specs.declared.calls.Answer.the-variants as answers
-use Rattle.unit_core.specs.Hearing.{syncEvent, kindBars, senderBars}
-use Rattle.unit_core.specs.Measuring.{fieldBar, askedBars, requestBars}
+use Rattle.unit_measuring.specs.Hearing.{twoStepIn}
+use Rattle.unit_measuring.specs.Asking.{narrow}
 use Rattle.unit_core.specs.Showing.{portOf}
-use Rattle.unit_core.specs.Ticking.{asAnswer, lineBy}
+use Rattle.unit_ticking.specs.Ticking.{lineBy}
 use Rattle.story_exchange.specs.Rules.{answer as exchangeAnswer}
 use Rattle.story_servo.specs.Offsets.{output, ten}
 use Rattle.story_masters.specs.Announces.{came, Log as SeatLog}
-use Rattle.story_masters.specs.Places.{answer as seatAnswer, chosen as chosenAt}
-use Rattle.story.specs.Book.{Book, wipeCount, lastNow, chosen, faulty, sequence, stood, seats, exchangeLog, offsets, lastMeasured, samples, isSome}
+use Rattle.story_masters.specs.Places.{answer as seatAnswer, chosenIn}
+use Rattle.story_lists.specs.Reading.{with-it}
+use Rattle.story.specs.Book.{Book, wipeCount, lastNow, chosen, faulty, sequence, seats, exchangeLog, offsets, offsetBy, lastMeasured, samples, then, isSome}
 
 -- ---- the output after these offsets
 abbrev pub outputOf : Settings → List ℤ → Ppb
 outputOf s l = record { 0 = output (s .kp) (s .ki) (s .sync) (limitOf (s .limit .0)) l }
 
 -- ---- the exchange
-abbrev pub unlessBarred : Verdict → Answer → Answer
+abbrev pub unlessBarred : Ruling → Answer → Answer
 unlessBarred Clear a = a
 unlessBarred (Barred n) a = answers.Refused n
 
 module _ (s : Settings) (b : Book) where
-  abbrev pub inWords : Told → Answer
-  inWords (tells.Refused n) = answers.Refused n
-  inWords tells.Held = answers.Held
-  inWords tells.Paired = answers.Paired
-  inWords tells.Asked = answers.Asked (sequence b)
-  inWords tells.Stamped = answers.Stamped
-  inWords tells.Back = answers.Back
-  inWords tells.Neg = answers.Neg
-  inWords tells.Long = answers.Long
-  inWords tells.Huge = answers.Huge
-  inWords tells.HugeFaulty = answers.HugeFaulty
-  inWords tells.Path = answers.Path
-  inWords tells.PathWipes = answers.PathWiped
-  inWords (tells.Step o) = answers.Step o
-  inWords (tells.Measured m) = answers.Measured m (outputOf s (m .offset .0 ∷ offsets b))
+  -- what the exchange said, with the output that is set after it: a measurement steers the clock, and a wipe sets 0
+  abbrev pub outputAfter : Said → Ppb
+  outputAfter said = cond (wipesOf said) (outputOf s []) (outputOf s (with-it (then (verdictOf said) offsetBy) (offsets b)))
 
-  abbrev pub exchanges : Event → Answer
-  exchanges e = inWords (exchangeAnswer (exchangeLog s b) e)
+  abbrev pub unitAnswer : Told → Answer
+  unitAnswer (tells.Refused n) = answers.Refused n
+  unitAnswer (tells.Says said) = answers.Exchange said (outputAfter said)
 
-  -- ---- the choice: "A wipe (new or lost master, ..)"
-  abbrev pub chooses : ℕ → SeatLog → Answer
-  chooses now l = cond (sameMasterOf (chosen b) (chosenAt (s .announce) l now)) (answers.Chose (chosenAt (s .announce) l now)) (answers.Changed (chosenAt (s .announce) l now))
+  abbrev pub eventAnswer : Event → Answer
+  eventAnswer e = unitAnswer (exchangeAnswer (exchangeLog s b) e)
 
-  abbrev pub seated : ℕ → Announce → Admission → Answer
-  seated now m (admission.Refused n) = answers.Refused n
-  seated now m (admission.Renewed p) = chooses now (came p now m ∷ seats s b)
-  seated now m (admission.Entered p) = chooses now (came p now m ∷ seats s b)
+  -- a message of the master, or a call of the unit's own: what is asked of it before the exchange is, in the order of numbers/specs/Orders.antt
+  abbrev pub calling : ℕ → (field domain master room : Bool) → Event → Answer
+  calling now field domain master room e = unlessBarred (firstOf (ofExchange field (ltb now (lastNow b)) (faulty b) domain master false false room)) (eventAnswer e)
 
-  -- ---- a message
-  abbrev pub heard : ℕ → Stamp → Header → Body → Answer
-  heard now t2 h (bodies.Announce stamp offer) =
-      seated now (record { header = h; stamp = stamp; offer = offer })
+  abbrev pub fromMaster : ℕ → Header → (field : Bool) → Event → Answer
+  fromMaster now h field e = calling now field (not (eqb (h .domain) (s .domain))) (not (isMaster (chosen b) (h .source))) false e
+
+  abbrev pub ownCall : ℕ → (field room : Bool) → Event → Answer
+  ownCall now field room e = calling now field false (not (chosen b .some)) room e
+
+  -- ---- the choice: a new or lost master wipes
+  abbrev pub choiceAnswer : ℕ → SeatLog → Answer
+  choiceAnswer now l = answers.Choice (decisionOf (chosen b) (chosenIn (s .announce) l now))
+
+  abbrev pub admissionAnswer : ℕ → Announce → Admission → Answer
+  admissionAnswer now m (admission.Refused n) = answers.Refused n
+  admissionAnswer now m (admission.Renewed p) = choiceAnswer now (came p now m ∷ seats s b)
+  admissionAnswer now m (admission.Entered p) = choiceAnswer now (came p now m ∷ seats s b)
+
+  -- ---- a message: a Delay_Req is KIND before all else, and a Sync alone has a t2
+  abbrev pub messageAnswer : ℕ → Stamp → Header → Body → Answer
+  messageAnswer now t2 h (bodies.Announce stamp offer) =
+      admissionAnswer now (record { header = h; stamp = stamp; offer = offer })
       (seatAnswer (s .domain) (s .own) (s .announce) (seats s b) (record { header = h; stamp = stamp; offer = offer }) now)
-  heard now t2 h (bodies.DelayReq t) = answers.Refused Kind
-  heard now t2 h (bodies.Sync t1) = unlessBarred (firstOf (kindBars t2 (bodies.Sync t1) ++ senderBars s (stood b) now h)) (exchanges (syncEvent h t1 t2))
-  heard now t2 h (bodies.FollowUp t1) =
-      unlessBarred (firstOf (kindBars t2 (bodies.FollowUp t1) ++ senderBars s (stood b) now h)) (exchanges (followUp (h .sequence) (h .correction) t1))
-  heard now t2 h (bodies.DelayResp t4 p) =
-      unlessBarred (firstOf (kindBars t2 (bodies.DelayResp t4 p) ++ senderBars s (stood b) now h)) (exchanges (delayResp (h .sequence) (h .correction) t4 p (s .own)))
+  messageAnswer now t2 h (bodies.DelayReq t) = answers.Refused Kind
+  messageAnswer now t2 h (bodies.Sync t1) = fromMaster now h (fieldOf t2) (sync (twoStepIn h) (h .sequence) (h .correction) t1 t2)
+  messageAnswer now t2 h (bodies.FollowUp t1) = fromMaster now h false (followUp (h .sequence) (h .correction) t1)
+  messageAnswer now t2 h (bodies.DelayResp t4 p) = fromMaster now h false (delayResp (h .sequence) (h .correction) t4 p (s .own))
 
   -- ---- the watch
-  abbrev pub pulsed : Outcome → Answer
-  pulsed refuse = answers.Refused NoTick
-  pulsed (wipe a) = asAnswer a
-  pulsed (take origin x) = cond (x .valid) answers.Valid answers.Invalid
+  abbrev pub pulseAnswer : Outcome → Answer
+  pulseAnswer (Refuse n) = answers.Refused n
+  pulseAnswer (Wipe p) = answers.Watch p
+  pulseAnswer (Take origin x) = answers.Watch (cond (x .valid) Valid Invalid)
 
   -- ---- what is shown
   abbrev pub overdue : Option ℕ → ℕ → Bool
@@ -106,12 +114,12 @@ module _ (s : Settings) (b : Book) where
   shown = cond (overdue (lastMeasured b) (lastNow b)) Holdover (cond (isTracking (ten (offsets b))) Tracking Adjusting)
 
   unfoldable pub answer : Call → Answer
-  answer (calls.Receive now arrival m) = heard now arrival (m .header) (m .body)
-  answer (calls.Request now room) = unlessBarred (firstOf (requestBars (stood b) now room)) (exchanges (requested (sequence b)))
-  answer (calls.Sent now n t3) = unlessBarred (firstOf (fieldBar t3 ∷ askedBars (stood b) now)) (exchanges (sent n t3))
-  answer (calls.Time now) = cond (ltb now (lastNow b)) (answers.Refused Now) (chooses now (seats s b))
+  answer (calls.Receive now arrival m) = messageAnswer now arrival (m .header) (m .body)
+  answer (calls.Request now room) = ownCall now false (narrow room) (requested (sequence b))
+  answer (calls.Sent now n t3) = ownCall now (fieldOf t3) false (sent n t3)
+  answer (calls.Time now) = unlessBarred (firstOf (ofTime false (ltb now (lastNow b)))) (choiceAnswer now (seats s b))
   answer calls.Reset = answers.Wiped
-  answer (calls.Tick r c) = pulsed (outcome (s .watch) (samples s b) r c)
+  answer (calls.Tick r c) = pulseAnswer (outcome (s .watch) (samples s b) r c)
   answer calls.Line = lineBy (lineSince (s .watch) (samples s b)) (wipeCount b % 2 ^ 32)
   answer calls.Show =
       answers.Shows

@@ -1,1 +1,1 @@
-// The unit told from the list of calls and their answers. Definitions and theorems; the code is the crate card.
+// The unit told from the list of calls and their answers. Definitions and theorems; the code is the crate unit.

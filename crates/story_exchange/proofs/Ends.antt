@@ -1,4 +1,4 @@
--- A finished measurement: the verdicts, "the third in a row", the last five delays and the delay last used.
+-- A finished measurement: the verdicts, the third in a row, the last five delays and the delay last used.
 use mathlib.Core.Path.{_≡_, refl, ap, _∙_}
 use mathlib.Core.List.{List, [], _∷_}
 use mathlib.Core.Option.{Option, none, some}
@@ -13,26 +13,29 @@ use lib.Seq.{take-take}
 use Rattle.numbers.specs.declared.stamp.Stamp.{Stamp}
 use Rattle.numbers.specs.declared.refusal.Refusal.the-variants.{Unmatched}
 use Rattle.wire_layout.specs.declared.message.Port.{Port}
-use Rattle.rules_exchange.specs.declared.delays.Delays.{Delays}
+use Rattle.rules_delays.specs.declared.Delays.{Delays}
 use Rattle.rules_exchange.specs.declared.Exchange.{Exchange}
-use Rattle.rules_exchange.specs.declared.Answer.{Answer}
-use Rattle.rules_exchange.specs.declared.Answer.the-variants.{Refused, Neg, Long, Huge, HugeFaulty, Path, PathWipes, Step}
-use Rattle.rules_exchange.specs.declared.measure.Sum.{Sum}
-use Rattle.rules_exchange.specs.declared.measure.Sum.the-variants.{Delay, Neg as SumNeg, Long as SumLong}
-use Rattle.rules_exchange.specs.Delays.{acceptedBefore, pathBy, usedOf, usedBy as memoryUses, filtered}
+use Rattle.rules_exchange.specs.declared.Answer.the-variants.{Refused, Says}
+use Rattle.rules_exchange.specs.declared.said.Said.{Said}
+use Rattle.rules_exchange.specs.declared.said.Said.the-variants.{Neg, Long, Huge, HugeFaulty, Path, PathWiped, Step}
+use Rattle.rules_measure.specs.declared.Sum.{Sum}
+use Rattle.rules_measure.specs.declared.Sum.the-variants.{Delay, Neg as SumNeg, Long as SumLong}
+use Rattle.rules_delays.specs.Delays.{acceptedBefore, pathBy, usedOf, usedBy as memoryUses, filtered}
 use Rattle.rules_exchange.specs.Halves.{noSync, noRequest, syncHalf, requestHalf}
-use Rattle.rules_exchange.specs.Measure.{forwardOf, backOf, sumOf, hugeOf, stepOf}
-use Rattle.rules_exchange.specs.Table.{Event, delayResp, samePort, measures, table, if-matching}
-use Rattle.rules_exchange.specs.Events.{freshExchange, answers as answering, refused, withRows, withDelay, spent, none as noLocal, ns, measuredAs, hugeAgain, pathAgain, accepted as accepting, judged as judging, bySum, follows}
-use Rattle.rules_exchange.proofs.Promises.{sync-held, request-held, last-five}
+use Rattle.rules_measure.specs.Measure.{ns, forwardOf, backOf, sumOf, hugeOf, isStep}
+use Rattle.rules_exchange.specs.Said.{Verdict}
+use Rattle.rules_exchange.specs.Table.{Event, delayResp, samePort, measures, rowBy, if-matching}
+use Rattle.rules_exchange.specs.Events.{saidWith, refused, withRows, withDelay, spent, noLocal, measuredWith, hugeAgain, pathAgain, accepted as accepting, judged as judging, bySum, follows}
+use Rattle.rules_exchange.proofs.Promises.{sync-held, request-held}
+use Rattle.rules_delays.proofs.Newest.{last-five}
 use Rattle.story_lists.specs.Reading.{all, since, first}
-use Rattle.story_exchange.specs.Log.{Log, line, events, answers, Origin, ASync, Verdict}
+use Rattle.story_exchange.specs.Log.{Log, entry, eventsIn, answersIn, Origin, ASync}
 use Rattle.story_exchange.specs.Held.{heldSync, origin, pending, t3, verdicts, isHuge, isPath, lastTwo, delays, lastDelay, lastUsed}
-use Rattle.story_exchange.specs.Rules.{forwardBy, backBy, farFrom, usedBy, used, offset, judged, responded, taken}
+use Rattle.story_exchange.specs.Rules.{forwardBy, backBy, farFrom, usedBy, used, offset, judged, responded, answerUnbarred}
 use Rattle.story_exchange.proofs.Tells.{syncRead, requestRead, row, Tells, fresh-tells, Agrees}
 use Rattle.story_exchange.proofs.Halves.{refusing}
 
--- ---- "the third in a row": a count up to 3 of the newest that are so tells whether the last two were
+-- ---- the third in a row: a count up to 3 of the newest that are so tells whether the last two were
 two-in-row : (so : Verdict → Bool) (l : List Verdict) → ltb (min 3 (row so l)) 2 ≡ not (lastTwo so l)
 unfolding row lastTwo
 two-in-row so [] = refl
@@ -67,9 +70,9 @@ module _ (l : Log) (x : Exchange) (h : Tells l x) (n : ℕ) (c : ℤ) (t4 : Stam
   Resp = delayResp n c t4 p own
 
   -- the log with this measurement, where it was not accepted and does not wipe
-  ended : (a : Answer) (i j : ℕ) → delays (line Resp a ∷ l) ≡ delays l → lastUsed (line Resp a ∷ l) ≡ lastUsed l → i ≡ min 3 (row isHuge (verdicts (line Resp a ∷ l)))
-      → j ≡ min 3 (row isPath (verdicts (line Resp a ∷ l))) → Tells (line Resp a ∷ l) (withRows (spent x) i j)
-  unfolding events all since
+  ended : (a : Said) (i j : ℕ) → delays (entry Resp a ∷ l) ≡ delays l → lastUsed (entry Resp a ∷ l) ≡ lastUsed l → i ≡ min 3 (row isHuge (verdicts (entry Resp a ∷ l)))
+      → j ≡ min 3 (row isPath (verdicts (entry Resp a ∷ l))) → Tells (entry Resp a ∷ l) (withRows (spent x) i j)
+  unfolding eventsIn all since
   ended a i j ds us hs ps =
       record {
         sync = sync-held noSync;
@@ -81,32 +84,32 @@ module _ (l : Log) (x : Exchange) (h : Tells l x) (n : ℕ) (c : ℤ) (t4 : Stam
         path = ps;
       }
 
-  huge-again : Agrees l Resp (cond (lastTwo isHuge (verdicts l)) HugeFaulty Huge) (hugeAgain (spent x))
-  unfolding hugeAgain answers all row
+  huge-again : Agrees l Resp (Says (cond (lastTwo isHuge (verdicts l)) HugeFaulty Huge)) (hugeAgain (spent x))
+  unfolding hugeAgain answersIn all row
   huge-again = go (lastTwo isHuge (verdicts l)) (ap (λ (k : ℕ). ltb k 2) (h .huge) ∙ two-in-row isHuge (verdicts l))
     where
       go : (b : Bool) → ltb (x .huge) 2 ≡ not b
-          → Agrees l Resp (cond b HugeFaulty Huge) (cond (ltb (x .huge) 2) (answering Huge (withRows (spent x) (x .huge + 1) 0)) (answering HugeFaulty (withRows (spent x) 3 0)))
+          → Agrees l Resp (Says (cond b HugeFaulty Huge)) (cond (ltb (x .huge) 2) (saidWith Huge (withRows (spent x) (x .huge + 1) 0)) (saidWith HugeFaulty (withRows (spent x) 3 0)))
       go true e = rw e (record { says = refl; tells = ended HugeFaulty 3 0 refl refl (omega (arith, ltb-false (x .huge) 2 e, h .huge)) refl })
       go false e = rw e (record { says = refl; tells = ended Huge (x .huge + 1) 0 refl refl (omega (arith, ltb-true (x .huge) 2 e, h .huge)) refl })
 
-  path-again : Agrees l Resp (cond (lastTwo isPath (verdicts l)) PathWipes Path) (pathAgain (spent x))
-  unfolding pathAgain answers all row
+  path-again : Agrees l Resp (Says (cond (lastTwo isPath (verdicts l)) PathWiped Path)) (pathAgain (spent x))
+  unfolding pathAgain answersIn all row
   path-again = go (lastTwo isPath (verdicts l)) (ap (λ (k : ℕ). ltb k 2) (h .path) ∙ two-in-row isPath (verdicts l))
     where
       go : (b : Bool) → ltb (x .path) 2 ≡ not b
-          → Agrees l Resp (cond b PathWipes Path) (cond (ltb (x .path) 2) (answering Path (withRows (spent x) 0 (x .path + 1))) (answering PathWipes freshExchange))
+          → Agrees l Resp (Says (cond b PathWiped Path)) (cond (ltb (x .path) 2) (saidWith Path (withRows (spent x) 0 (x .path + 1))) (saidWith PathWiped (withRows (spent x) 0 3)))
       go true e = rw e (record { says = refl; tells = fresh-tells })
       go false e = rw e (record { says = refl; tells = ended Path 0 (x .path + 1) refl refl refl (omega (arith, ltb-true (x .path) 2 e, h .path)) })
 
   accept : (forward : ℤ) (d : ℕ) (u : ℕ) → usedOf (x .delays) d ≡ u → used l d ≡ u
-      → Agrees l Resp (cond (stepOf (forward -ℤ pos u)) (Step (ns (forward -ℤ pos u))) (measuredAs d u (forward -ℤ pos u))) (accepting (spent x) forward d)
-  unfolding accepting events answers all since row
-  accept forward d u e f = rw e (go (stepOf (forward -ℤ pos u)))
+      → Agrees l Resp (Says (cond (isStep (forward -ℤ pos u)) (Step (ns (forward -ℤ pos u))) (measuredWith d u (forward -ℤ pos u)))) (accepting (spent x) forward d)
+  unfolding accepting eventsIn answersIn all since row
+  accept forward d u e f = rw e (go (isStep (forward -ℤ pos u)))
     where
       go : (b : Bool)
-          → Agrees l Resp (cond b (Step (ns (forward -ℤ pos u))) (measuredAs d u (forward -ℤ pos u)))
-          (cond b (answering (Step (ns (forward -ℤ pos u))) freshExchange) (answering (measuredAs d u (forward -ℤ pos u)) (withDelay (spent x) d)))
+          → Agrees l Resp (Says (cond b (Step (ns (forward -ℤ pos u))) (measuredWith d u (forward -ℤ pos u))))
+          (cond b (saidWith (Step (ns (forward -ℤ pos u))) (spent x)) (saidWith (measuredWith d u (forward -ℤ pos u)) (withDelay (spent x) d)))
       go true = record { says = refl; tells = fresh-tells }
       go false =
           record {
@@ -123,17 +126,17 @@ module _ (l : Log) (x : Exchange) (h : Tells l x) (n : ℕ) (c : ℤ) (t4 : Stam
                 };
           }
 
-  judge : (forward : ℤ) (s : Sum) → Agrees l Resp (judged l forward s) (bySum (spent x) forward s)
-  unfolding judging answers all row
+  judge : (forward : ℤ) (s : Sum) → Agrees l Resp (Says (judged l forward s)) (bySum (spent x) forward s)
+  unfolding judging answersIn all row
   judge forward SumNeg = record { says = refl; tells = ended Neg 0 0 refl refl refl refl }
   judge forward SumLong = record { says = refl; tells = ended Long 0 0 refl refl refl refl }
   judge forward (Delay d) = rw (h .five, path-read (delays l) d) (go (hugeOf (forward -ℤ pos d)) (farFrom (lastDelay l) d))
     where
       go : (a b : Bool)
           → Agrees l Resp
-          (cond a (cond (lastTwo isHuge (verdicts l)) HugeFaulty Huge)
-          (cond b (cond (lastTwo isPath (verdicts l)) PathWipes Path)
-          (cond (stepOf (offset l forward d)) (Step (ns (offset l forward d))) (measuredAs d (used l d) (offset l forward d)))))
+          (Says (cond a (cond (lastTwo isHuge (verdicts l)) HugeFaulty Huge)
+          (cond b (cond (lastTwo isPath (verdicts l)) PathWiped Path)
+          (cond (isStep (offset l forward d)) (Step (ns (offset l forward d))) (measuredWith d (used l d) (offset l forward d))))))
           (cond a (hugeAgain (spent x)) (cond b (pathAgain (spent x)) (accepting (spent x) forward d)))
       go true b = huge-again
       go false true = path-again
@@ -144,8 +147,8 @@ module _ (l : Log) (x : Exchange) (h : Tells l x) (n : ℕ) (c : ℤ) (t4 : Stam
   either true = refusing l x h Resp Unmatched
   either false = refusing l x h Resp Unmatched
 
-  pub respond : Agrees l Resp (taken l Resp) (follows x noLocal (table Resp (syncHalf (x .sync)) (requestHalf (x .request))))
-  unfolding taken table
+  pub respond : Agrees l Resp (answerUnbarred l Resp) (follows x noLocal (rowBy Resp (syncHalf (x .sync)) (requestHalf (x .request))))
+  unfolding answerUnbarred rowBy
   respond = rw (h .sync, h .request) (go (heldSync l) (origin l) (pending l) (t3 l))
     where
       both : (forward back : ℤ) (a b : Bool)
@@ -156,7 +159,7 @@ module _ (l : Log) (x : Exchange) (h : Tells l x) (n : ℕ) (c : ℤ) (t4 : Stam
       both forward back false false = refusing l x h Resp Unmatched
 
       go : (s : Option ASync) (o : Option Origin) (r : Option ℕ) (t : Option Stamp)
-          → Agrees l Resp (cond (samePort p own) (responded l (forwardBy s o) (backBy r t n t4 c)) (Refused Unmatched)) (follows x noLocal (table Resp (syncRead s o) (requestRead r t)))
+          → Agrees l Resp (cond (samePort p own) (responded l (forwardBy s o) (backBy r t n t4 c)) (Refused Unmatched)) (follows x noLocal (rowBy Resp (syncRead s o) (requestRead r t)))
       go none o r t = either (samePort p own)
       go (some s) none r t = either (samePort p own)
       go (some s) (some o) none t = either (samePort p own)

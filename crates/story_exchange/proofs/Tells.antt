@@ -10,16 +10,17 @@ use Rattle.rules_exchange.specs.declared.Last.{Last}
 use Rattle.rules_exchange.specs.declared.Exchange.{Exchange}
 use Rattle.rules_exchange.specs.declared.Answer.{Answer}
 use Rattle.rules_exchange.specs.declared.Answered.{Answered}
-use Rattle.rules_exchange.specs.Delays.{acceptedBefore, usedOf, usedBy as memoryUses}
+use Rattle.rules_delays.specs.Delays.{acceptedBefore, usedOf, usedBy as memoryUses}
 use Rattle.rules_exchange.specs.Halves.{SyncHalf, noSync, awaits, knows, RequestHalf, noRequest, asked, stamped, syncHalf, requestHalf}
+use Rattle.rules_exchange.specs.Said.{Verdict}
 use Rattle.rules_exchange.specs.Table.{Event}
 use Rattle.rules_exchange.specs.Events.{freshExchange}
 use Rattle.rules_exchange.proofs.Promises.{sync-held, request-held}
 use Rattle.story_lists.specs.Reading.{all, since, newest}
-use Rattle.story_exchange.specs.Log.{Log, events, answers, Origin, ASync, aSync, aRequest, Verdict}
+use Rattle.story_exchange.specs.Log.{Log, eventsIn, answersIn, Origin, ASync, aSync, aRequest}
 use Rattle.story_exchange.specs.Held.{heldSync, originOf, origin, pending, stampOf, t3, lastLocal, verdicts, isHuge, isPath, delays}
 use Rattle.story_exchange.specs.Rules.{used}
-use Rattle.story_exchange.specs.History.{entered}
+use Rattle.story_exchange.specs.History.{logWith, exchangeAfter}
 
 -- the halves, as the table of the exchange has them
 abbrev pub syncRead : Option ASync → Option Origin → SyncHalf
@@ -57,7 +58,7 @@ pub record Tells (l : Log) (x : Exchange) : Type 0 where
 
 -- nothing is held, and the log is empty
 pub fresh-tells : Tells [] freshExchange
-unfolding events answers all since row memoryUses
+unfolding eventsIn answersIn all since row memoryUses
 fresh-tells =
     record {
       sync = sync-held noSync;
@@ -72,4 +73,4 @@ fresh-tells =
 -- the machine's answer is a, and its memory tells the log with one line more
 pub record Agrees (l : Log) (e : Event) (a : Answer) (r : Answered) : Type 0 where
   pub says : r .answer ≡ a
-  pub tells : Tells (entered e a l) (r .exchange)
+  pub tells : Tells (logWith e a l) (exchangeAfter r)

@@ -1,22 +1,23 @@
--- What is held, read off the log: document 01, "The exchange".
+-- What is held, read off the log (rules 7.1 to 7.8, 7.19 and 7.21).
 use mathlib.Core.List.{List, [], _∷_}
 use mathlib.Core.Option.{Option, none, some}
 use mathlib.Core.Bool.{Bool, true, false, _&&_}
 use Prim.Native.Nat.{ℕ}
 use Rattle.numbers.specs.declared.stamp.Stamp.{Stamp}
+use Rattle.rules_exchange.specs.Said.{Verdict, neg, long, huge, path, step, accepted, verdictOf}
 use Rattle.rules_exchange.specs.Table.{Event}
 use Rattle.story_lists.specs.Reading.{all, since, newest, or-else}
-use Rattle.story_exchange.specs.Log.{Log, events, answers, Origin, ASync, aSync, aFollowUp, aRequest, aT3, aDelayResp, aLocal, Verdict, neg, long, huge, path, accepted, aVerdict, aDelay, aUsed}
+use Rattle.story_exchange.specs.Log.{Log, eventsIn, answersIn, Origin, ASync, aSync, aFollowUp, aRequest, aT3, aDelayResp, aLocal, aDelay, aUsed}
 
--- ---- the halves. "A Delay_Resp .. spends both halves": what came since the last one counts
+-- ---- the halves: what came since the last Delay_Resp, which spent both (rule 7.7)
 abbrev pub unspent : Log → List Event
-unspent l = since aDelayResp (events l)
+unspent l = since aDelayResp (eventsIn l)
 
--- "A Sync with stamp t2 replaces the one held": it is the newest
+-- the newest Sync (rule 7.2)
 abbrev pub heldSync : Log → Option ASync
 heldSync l = newest aSync (unspent l)
 
--- "One-step: its timestamp is t1. Two-step: a Follow_Up of its sequenceId gives t1": one that came after it
+-- its t1: its own where it is one-step, else that of a Follow_Up that came after it (rules 7.3 and 7.4)
 abbrev pub originOf : Option ASync → List Event → Option Origin
 originOf none es = none
 originOf (some s) es = or-else (s .own) (newest (aFollowUp (s .sequence)) (since aSync es))
@@ -24,11 +25,11 @@ originOf (some s) es = or-else (s .own) (newest (aFollowUp (s .sequence)) (since
 abbrev pub origin : Log → Option Origin
 origin l = originOf (heldSync l) (unspent l)
 
--- "A request is pending from its writing; .. a newer request replaces it": it is the newest
+-- the newest request (rule 7.5)
 abbrev pub pending : Log → Option ℕ
 pending l = newest aRequest (unspent l)
 
--- "t3 is given .. for its sequenceId": one that came after it
+-- its t3, which came after it (rule 7.6)
 abbrev pub stampOf : Option ℕ → List Event → Option Stamp
 stampOf none es = none
 stampOf (some n) es = newest (aT3 n) (since aRequest es)
@@ -38,17 +39,18 @@ t3 l = stampOf (pending l) (unspent l)
 
 -- ---- the last local stamp
 abbrev pub lastLocal : Log → Option Stamp
-lastLocal l = newest aLocal (events l)
+lastLocal l = newest aLocal (eventsIn l)
 
 -- ---- the finished measurements since the wipe, the newest first
 abbrev pub verdicts : Log → List Verdict
-verdicts l = all aVerdict (answers l)
+verdicts l = all verdictOf (answersIn l)
 
 abbrev pub isHuge : Verdict → Bool
 isHuge neg = false
 isHuge long = false
 isHuge huge = true
 isHuge path = false
+isHuge (step o) = false
 isHuge (accepted d u o) = false
 
 abbrev pub isPath : Verdict → Bool
@@ -56,9 +58,10 @@ isPath neg = false
 isPath long = false
 isPath huge = false
 isPath path = true
+isPath (step o) = false
 isPath (accepted d u o) = false
 
--- one more such is "the third in a row": the last two finished measurements were so
+-- one more such is the third in a row: the last two finished measurements were so
 unfoldable pub lastTwo : (Verdict → Bool) → List Verdict → Bool
 lastTwo so [] = false
 lastTwo so (v ∷ []) = false

@@ -8,27 +8,29 @@ use lib.IntN.{ℤ, pos, _+ℤ_, _-ℤ_}
 use lib.ListN.{take}
 use Rattle.numbers.specs.Stamps.{belowOf}
 use Rattle.numbers.specs.declared.stamp.Stamp.{Stamp}
-use Rattle.numbers.specs.declared.refusal.Refusal.the-variants.{Field, Correction, Unmatched}
+use Rattle.numbers.specs.declared.refusal.Refusal.the-variants.{Correction, Unmatched}
 use Rattle.rules_exchange.specs.declared.Answer.{Answer}
-use Rattle.rules_exchange.specs.declared.Answer.the-variants.{Refused, Held, Paired, Asked, Stamped, Back, Neg, Long, Huge, HugeFaulty, Path, PathWipes, Step}
-use Rattle.rules_exchange.specs.declared.measure.Sum.{Sum}
-use Rattle.rules_exchange.specs.declared.measure.Sum.the-variants.{Delay, Neg as SumNeg, Long as SumLong}
-use Rattle.rules_exchange.specs.Median.{lowerMiddle}
-use Rattle.rules_exchange.specs.Delays.{apart}
-use Rattle.rules_exchange.specs.Measure.{forwardOf, backOf, sumOf, hugeOf, stepOf}
-use Rattle.rules_exchange.specs.Table.{Event, oneStep, twoStep, followUp, requested, sent, delayResp, samePort}
-use Rattle.rules_exchange.specs.Events.{fieldOf, correctionIn, ns, measuredAs}
-use Rattle.story_exchange.specs.Log.{Log, Origin, ASync, aLocal}
+use Rattle.rules_exchange.specs.declared.Answer.the-variants.{Refused, Says}
+use Rattle.rules_exchange.specs.declared.said.Said.{Said}
+use Rattle.rules_exchange.specs.declared.said.Said.the-variants.{Held, Paired, Asked, Stamped, Back, Neg, Long, Huge, HugeFaulty, Path, PathWiped, Step}
+use Rattle.rules_measure.specs.declared.Sum.{Sum}
+use Rattle.rules_measure.specs.declared.Sum.the-variants.{Delay, Neg as SumNeg, Long as SumLong}
+use Rattle.rules_delays.specs.Median.{lowerMiddle}
+use Rattle.rules_delays.specs.Delays.{distanceOf}
+use Rattle.rules_measure.specs.Measure.{ns, forwardOf, backOf, sumOf, hugeOf, isStep}
+use Rattle.rules_exchange.specs.Table.{Event, sync, followUp, requested, sent, delayResp, samePort}
+use Rattle.rules_exchange.specs.Events.{correctionIn, measuredWith}
+use Rattle.story_exchange.specs.Log.{Log, Origin, ASync}
 use Rattle.story_exchange.specs.Held.{heldSync, origin, pending, t3, lastLocal, verdicts, isHuge, isPath, lastTwo, delays, lastDelay, lastUsed}
 
 -- ---- partners
--- "a Follow_Up of its sequenceId gives t1, once": the Sync held is of sequenceId n, and has no t1 yet
+-- the Sync held is of sequenceId n, and has no t1 yet (rule 7.4)
 abbrev pub wantsT1 : Option ASync → Option Origin → ℕ → Bool
 wantsT1 none o n = false
 wantsT1 (some s) none n = eqb (s .sequence) n
 wantsT1 (some s) (some o) n = false
 
--- "t3 is given once for its sequenceId": the request pending is n, and has no t3 yet
+-- the request pending is n, and has no t3 yet (rule 7.6)
 abbrev pub wantsT3 : Option ℕ → Option Stamp → ℕ → Bool
 wantsT3 none t n = false
 wantsT3 (some m) none n = eqb m n
@@ -46,59 +48,55 @@ backBy none t n t4 c = none
 backBy (some m) none n t4 c = none
 backBy (some m) (some t) n t4 c = cond (eqb m n) (some (backOf t t4 c)) none
 
--- ---- BACK: "A t2 or t3 below the last local stamp wipes (BACK) and is not taken."
+-- ---- BACK: below the last local stamp (rule 7.9)
 abbrev pub isBelow : Stamp → Option Stamp → Bool
 isBelow t none = false
 isBelow t (some u) = belowOf t u
 
-abbrev pub unlessBack : Log → Stamp → Answer → Answer
-unlessBack l t a = cond (isBelow t (lastLocal l)) Back a
+abbrev pub unlessBack : Log → Stamp → Said → Said
+unlessBack l t s = cond (isBelow t (lastLocal l)) Back s
 
 -- ---- a finished measurement
--- "Delay 1,000,000 or more from the last accepted: PATH"
+-- PATH, of the last accepted delay and this one (rule 7.17)
 abbrev pub farFrom : Option ℕ → ℕ → Bool
 farFrom none d = false
-farFrom (some last) d = leb 1000000 (apart d last)
+farFrom (some last) d = leb 1000000 (distanceOf d last)
 
--- "If the delay is over 1,000 from the delay last used, the median of the last five accepted delays, this one included, is used .., else the delay."
+-- the delay that is used (rules 7.21 and 7.22)
 abbrev pub usedBy : Option ℕ → List ℕ → ℕ → ℕ
 usedBy none before d = d
-usedBy (some u) before d = cond (ltb 1000 (apart d u)) (lowerMiddle (take 5 (d ∷ before))) d
+usedBy (some u) before d = cond (ltb 1000 (distanceOf d u)) (lowerMiddle (take 5 (d ∷ before))) d
 
 abbrev pub used : Log → ℕ → ℕ
 used l d = usedBy (lastUsed l) (delays l) d
 
--- "Offset = forward - used. Offset beyond 100,000,000 either way: STEP, with the offset"
+-- rule 7.23
 abbrev pub offset : Log → ℤ → ℕ → ℤ
 offset l forward d = forward -ℤ pos (used l d)
 
-abbrev pub judged : Log → ℤ → Sum → Answer
+-- rules 7.13 to 7.24
+abbrev pub judged : Log → ℤ → Sum → Said
 judged l forward SumNeg = Neg
 judged l forward SumLong = Long
 judged l forward (Delay d) =
     cond (hugeOf (forward -ℤ pos d)) (cond (lastTwo isHuge (verdicts l)) HugeFaulty Huge)
-    (cond (farFrom (lastDelay l) d) (cond (lastTwo isPath (verdicts l)) PathWipes Path)
-    (cond (stepOf (offset l forward d)) (Step (ns (offset l forward d)))
-    (measuredAs d (used l d) (offset l forward d))))
+    (cond (farFrom (lastDelay l) d) (cond (lastTwo isPath (verdicts l)) PathWiped Path)
+    (cond (isStep (offset l forward d)) (Step (ns (offset l forward d)))
+    (measuredWith d (used l d) (offset l forward d))))
 
 abbrev pub responded : Log → Option ℤ → Option ℤ → Answer
 responded l none back = Refused Unmatched
 responded l (some forward) none = Refused Unmatched
-responded l (some forward) (some back) = judged l forward (sumOf (forward +ℤ back))
+responded l (some forward) (some back) = Says (judged l forward (sumOf (forward +ℤ back)))
 
--- ---- the whole: FIELD, CORRECTION, UNMATCHED, in this order
-abbrev pub fieldIn : Option Stamp → Bool
-fieldIn none = false
-fieldIn (some t) = fieldOf t
-
-unfoldable pub taken : Log → Event → Answer
-taken l (oneStep n c t1 t2) = unlessBack l t2 Held
-taken l (twoStep n c t2) = unlessBack l t2 Held
-taken l (followUp n c t1) = cond (wantsT1 (heldSync l) (origin l) n) Paired (Refused Unmatched)
-taken l (requested n) = Asked
-taken l (sent n t) = cond (wantsT3 (pending l) (t3 l) n) (unlessBack l t Stamped) (Refused Unmatched)
-taken l (delayResp n c t4 p own) =
+-- ---- the whole: CORRECTION before UNMATCHED
+unfoldable pub answerUnbarred : Log → Event → Answer
+answerUnbarred l (sync two n c t1 t2) = Says (unlessBack l t2 Held)
+answerUnbarred l (followUp n c t1) = cond (wantsT1 (heldSync l) (origin l) n) (Says Paired) (Refused Unmatched)
+answerUnbarred l (requested n) = Says (Asked n)
+answerUnbarred l (sent n t) = cond (wantsT3 (pending l) (t3 l) n) (Says (unlessBack l t Stamped)) (Refused Unmatched)
+answerUnbarred l (delayResp n c t4 p own) =
     cond (samePort p own) (responded l (forwardBy (heldSync l) (origin l)) (backBy (pending l) (t3 l) n t4 c)) (Refused Unmatched)
 
 unfoldable pub answer : Log → Event → Answer
-answer l e = cond (fieldIn (aLocal e)) (Refused Field) (cond (correctionIn e) (Refused Correction) (taken l e))
+answer l e = cond (correctionIn e) (Refused Correction) (answerUnbarred l e)

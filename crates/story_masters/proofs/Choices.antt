@@ -4,28 +4,17 @@ use mathlib.Core.List.{List, [], _∷_, map}
 use mathlib.Core.Option.{none, some}
 use mathlib.Core.Bool.{Bool, true, false, cond}
 use Prim.Native.Nat.{ℕ, _≤_}
-use native.Mathlib.Omega.{arith}
-use lib.ListN.{length}
 use Rattle.rules_masters.specs.declared.record.Announce.{Announce}
 use Rattle.rules_masters.specs.declared.record.Record.{Record}
 use Rattle.rules_masters.specs.Records.{qualifiedOf}
 use Rattle.rules_masters.specs.Comparison.{betterOf}
-use Rattle.rules_masters.specs.Choosing.{those, keeps, choiceAmong, inOrder, asChoice}
+use Rattle.rules_masters.specs.Choosing.{those, keptAmong, choiceAmong, asChoice}
 use Rattle.rules_masters.specs.Holding.{chosenOf}
 use Rattle.rules_masters.specs.Places.{placeOf, countOf}
 use Rattle.story_lists.specs.Reading.{all, with-it}
-use Rattle.story_masters.specs.Announces.{Arrival, qualified, better}
+use Rattle.story_masters.specs.Announces.{Arrival, aQualified, betterAnnounce}
 use Rattle.story_masters.specs.Places.{asMaster}
 use Rattle.story_masters.proofs.Seats.{Seat, qualified-same}
-
-pub in-order : (t : List Record) → length t ≡ 5 → t ≡ inOrder t
-in-order [] e = absurd (omega arith)
-in-order (a ∷ []) e = absurd (omega arith)
-in-order (a ∷ b ∷ []) e = absurd (omega arith)
-in-order (a ∷ b ∷ c ∷ []) e = absurd (omega arith)
-in-order (a ∷ b ∷ c ∷ d ∷ []) e = absurd (omega arith)
-in-order (a ∷ b ∷ c ∷ d ∷ f ∷ []) e = refl
-in-order (a ∷ b ∷ c ∷ d ∷ f ∷ g ∷ l) e = absurd (omega arith)
 
 module _ (last interval : ℕ) where
   abbrev pub Alike : List (List Arrival) → List Record → Type 0
@@ -51,7 +40,7 @@ module _ (last interval : ℕ) where
 
   -- those that are qualified, in table order
   pub those-same : (now : ℕ) → last ≤ now → (l : List (List Arrival)) (t : List Record) → Alike l t
-      → all (qualified now interval) l ≡ map (λ (r : Record). r .announce) (those (qualifiedOf now interval) t)
+      → all (aQualified now interval) l ≡ map (λ (r : Record). r .announce) (those (qualifiedOf now interval) t)
   unfolding all those
   those-same now k [] [] h = refl
   those-same now k [] (r ∷ t) h = absurd h
@@ -68,17 +57,17 @@ module _ (last interval : ℕ) where
 abbrev announces : List Record → List Announce
 announces t = map (λ (r : Record). r .announce) t
 
-kept-same : (r : Record) (t : List Record) → keeps betterOf r t .announce ≡ keeps better (r .announce) (announces t)
-unfolding keeps betterOf
+kept-same : (r : Record) (t : List Record) → keptAmong betterOf r t .announce ≡ keptAmong betterAnnounce (r .announce) (announces t)
+unfolding keptAmong betterOf
 kept-same r [] = refl
 kept-same r (n ∷ t) =
-    kept-same (cond (betterOf n r) n r) t ∙ ap (λ (m : Announce). keeps better m (announces t)) (go (betterOf n r))
+    kept-same (cond (betterOf n r) n r) t ∙ ap (λ (m : Announce). keptAmong betterAnnounce m (announces t)) (go (betterOf n r))
   where
     go : (b : Bool) → cond b n r .announce ≡ cond b (n .announce) (r .announce)
     go true = refl
     go false = refl
 
-pub choice-same : (t : List Record) → chosenOf (asChoice (choiceAmong betterOf t)) ≡ asMaster (choiceAmong better (announces t))
+pub choice-same : (t : List Record) → chosenOf (asChoice (choiceAmong betterOf t)) ≡ asMaster (choiceAmong betterAnnounce (announces t))
 unfolding choiceAmong
 choice-same [] = refl
 choice-same (r ∷ t) = ap (λ (m : Announce). asMaster (some m)) (kept-same r t)

@@ -1,6 +1,6 @@
 -- From an empty table, after any history, an Announce gets the answer that the history gives, and the master chosen is the one that it gives.
 use mathlib.Core.Path.{_≡_, refl, sym, ap, _∙_, subst}
-use mathlib.Core.List.{List, [], _∷_, _++_}
+use mathlib.Core.List.{List, [], _∷_}
 use mathlib.Core.Option.{none, some}
 use mathlib.Core.Bool.{Bool, true, false, cond, not, _&&_}
 use Prim.Native.Nat.{ℕ, zero, suc, _<_, _≤_}
@@ -9,34 +9,35 @@ use borrow.Author.Tests.{ltb-true, ltb-false, leb-false, eqb-true, eqb-false}
 use lib.Dec.{leb, ltb, eqb}
 use lib.ListN.{length, getD, set, length-set}
 use lib.Seq.{getD-set-same, getD-set-other}
-use Rattle.numbers.specs.declared.refusal.Refusal.the-variants.{Repeat, Full}
+use Rattle.numbers.specs.declared.ruling.Ruling.{Ruling}
+use Rattle.numbers.specs.declared.ruling.Ruling.the-variants.{Clear, Barred}
+use Rattle.numbers.specs.Grounds.{firstOf}
 use Rattle.wire_layout.specs.declared.message.Port.{Port}
 use Rattle.rules_masters.specs.declared.record.Announce.{Announce}
 use Rattle.rules_masters.specs.declared.record.Record.{Record}
 use Rattle.rules_masters.specs.declared.admission.Admitted.{Admitted}
 use Rattle.rules_masters.specs.declared.admission.Answer.{Answer}
 use Rattle.rules_masters.specs.declared.admission.Answer.the-variants.{Renewed, Entered}
-use Rattle.rules_masters.specs.declared.admission.Verdict.{Verdict}
-use Rattle.rules_masters.specs.declared.admission.Verdict.the-variants.{Clear, Barred}
-use Rattle.rules_masters.specs.Records.{intervalOf, liveOf, knownOf, qualifiedOf, emptyRecord, enteredOf, renewedOf}
-use Rattle.rules_masters.specs.Places.{placeOf, countOf, absent, emptyTable}
-use Rattle.rules_masters.specs.Admitting.{Ground, firstOf, entrance, home as homeIn, seating, acceptedOf, given, admittedOf}
+use Rattle.rules_masters.specs.Records.{intervalOf, liveOf, knownOf, qualifiedOf, freshRecord, enteredOf, renewedOf}
+use Rattle.rules_masters.specs.Places.{placeOf, countOf, absent, freshTable}
+use Rattle.rules_masters.specs.Admitting.{home as homeIn, isRepeat as repeatIn, isFull as fullIn, acceptedOf, groundsOf, admittedBy, admittedOf}
 use Rattle.rules_masters.specs.Choosing.{those, choiceAmong, inOrder, choiceOf}
-use Rattle.rules_masters.specs.Holding.{chosenOf}
-use Rattle.rules_masters.proofs.Grounds.{clear-cons, clear-append}
+use Rattle.rules_masters.specs.Holding.{chosenAt}
+use Rattle.rules_masters.proofs.Barring.{clear-announce}
 use Rattle.rules_masters.proofs.Placing.{place-holds, has-room, opposite}
+use Rattle.rules_masters.proofs.Order.{in-order}
 use Rattle.story_lists.specs.Reading.{all, with-it}
-use Rattle.story_masters.specs.Announces.{Log, came, passed, lastNow, Arrival, senderOf, at, places, isLive, isHome, better}
-use Rattle.story_masters.specs.Places.{lastIs, home, free, grounds, seat, answer, asMaster, chosen}
-use Rattle.story_masters.specs.History.{Happening, announces, calls, entered, log, Memory, lastAfter, admits, machine}
+use Rattle.story_masters.specs.Announces.{Log, came, passed, lastNow, Arrival, senderOf, arrivalsAt, places, isHome, betterAnnounce}
+use Rattle.story_masters.specs.Places.{lastIs, home, free, isRepeat, isFull, seatBy, answer, asMaster, chosenIn}
+use Rattle.story_masters.specs.History.{Happening, arrives, passes, logBy, log, Memory, lastAfter, admissionOf, machine}
 use Rattle.story_masters.proofs.Seats.{Seat, seat-later, live-same, home-same, absent-same, renewed, entered as enters}
-use Rattle.story_masters.proofs.Choices.{in-order, Alike, place-same, count-same, those-same, choice-same}
+use Rattle.story_masters.proofs.Choices.{Alike, place-same, count-same, those-same, choice-same}
 
 -- the memory tells the log
 pub record Tells (interval : ℕ) (l : Log) (k : Memory) : Type 0 where
   pub last : k .last ≡ lastNow l
   pub five : length (k .table .records) ≡ 5
-  pub seats : (q : ℕ) → Seat (lastNow l) interval (at q l) (getD (k .table .records) q emptyRecord)
+  pub seats : (q : ℕ) → Seat (lastNow l) interval (arrivalsAt q l) (getD (k .table .records) q freshRecord)
 
 module _ (interval : ℕ) (l : Log) (k : Memory) (h : Tells interval l k) where
   abbrev T : List Record
@@ -46,7 +47,7 @@ module _ (interval : ℕ) (l : Log) (k : Memory) (h : Tells interval l k) where
   in-places = (h .seats 0, (h .seats 1, (h .seats 2, (h .seats 3, (h .seats 4, tt)))))
 
   alike : Alike (lastNow l) interval (places l) T
-  alike = subst (λ (t : List Record). Alike (lastNow l) interval (places l) t) (sym (in-order T (h .five))) in-places
+  alike = subst (λ (t : List Record). Alike (lastNow l) interval (places l) t) (in-order T (h .five)) in-places
 
   -- ---- an Announce
   module _ (m : Announce) (now : ℕ) where
@@ -56,11 +57,11 @@ module _ (interval : ℕ) (l : Log) (k : Memory) (h : Tells interval l k) where
     frees : placeOf (absent now interval) T ≡ free l m interval now
     frees = place-same (lastNow l) interval _ _ (absent-same (lastNow l) interval now) (places l) T alike
 
-    known-home : homeIn T m interval now < 5 → isHome now interval (senderOf m) (at (homeIn T m interval now) l) ≡ true
+    known-home : homeIn T m interval now < 5 → isHome now interval (senderOf m) (arrivalsAt (homeIn T m interval now) l) ≡ true
     known-home c =
         let q = homeIn T m interval now in
-        sym (home-same (lastNow l) interval now (senderOf m) (at q l) (getD T q emptyRecord) (h .seats q))
-        ∙ place-holds (knownOf (senderOf m) now interval) T emptyRecord (rw (h .five) c)
+        sym (home-same (lastNow l) interval now (senderOf m) (arrivalsAt q l) (getD T q freshRecord) (h .seats q))
+        ∙ place-holds (knownOf (senderOf m) now interval) T freshRecord (rw (h .five) c)
 
     -- REPEAT and FULL
     sequence-same : (n : ℕ) (these : List Arrival) (r : Record) → Seat (lastNow l) interval these r → isHome now interval (senderOf m) these ≡ true
@@ -71,53 +72,49 @@ module _ (interval : ℕ) (l : Log) (k : Memory) (h : Tells interval l k) where
     abbrev Number : ℕ
     Number = m .header .sequence
 
-    repeats : (p : ℕ) → homeIn T m interval now ≡ p → ltb (homeIn T m interval now) 5 && eqb (getD T (homeIn T m interval now) emptyRecord .announce .header .sequence) Number ≡ ltb p 5 && lastIs Number (at p l)
-    repeats p e = go (ltb (homeIn T m interval now) 5) refl ∙ ap (λ (q : ℕ). ltb q 5 && lastIs Number (at q l)) e
+    repeats : (p : ℕ) → homeIn T m interval now ≡ p → ltb (homeIn T m interval now) 5 && eqb (getD T (homeIn T m interval now) freshRecord .announce .header .sequence) Number ≡ ltb p 5 && lastIs Number (arrivalsAt p l)
+    repeats p e = go (ltb (homeIn T m interval now) 5) refl ∙ ap (λ (q : ℕ). ltb q 5 && lastIs Number (arrivalsAt q l)) e
       where
         go : (b : Bool) → ltb (homeIn T m interval now) 5 ≡ b
-            → b && eqb (getD T (homeIn T m interval now) emptyRecord .announce .header .sequence) Number ≡ b && lastIs Number (at (homeIn T m interval now) l)
-        go true f = sequence-same Number (at (homeIn T m interval now) l) (getD T (homeIn T m interval now) emptyRecord) (h .seats (homeIn T m interval now)) (known-home (ltb-true _ _ f))
+            → b && eqb (getD T (homeIn T m interval now) freshRecord .announce .header .sequence) Number ≡ b && lastIs Number (arrivalsAt (homeIn T m interval now) l)
+        go true f = sequence-same Number (arrivalsAt (homeIn T m interval now) l) (getD T (homeIn T m interval now) freshRecord) (h .seats (homeIn T m interval now)) (known-home (ltb-true _ _ f))
         go false f = refl
 
-    abbrev two : Bool → Bool → List Ground
-    two a b = record { refusal = Repeat; due = a } ∷ record { refusal = Full; due = b } ∷ []
+    repeat-same : repeatIn T m interval now ≡ isRepeat l m interval now
+    unfolding repeatIn
+    repeat-same = repeats (home l m interval now) homes
 
-    grounds-same : seating T m interval now ≡ grounds l m interval now
-    unfolding seating
-    grounds-same =
-        ap (λ (d : Bool). two d (not (ltb (homeIn T m interval now) 5) && leb 5 (countOf (liveOf now interval) T))) (repeats (home l m interval now) homes)
-        ∙ ap (λ (d : Bool). two (ltb (home l m interval now) 5 && lastIs Number (at (home l m interval now) l)) d) full
-      where
-        full : not (ltb (homeIn T m interval now) 5) && leb 5 (countOf (liveOf now interval) T) ≡ not (ltb (home l m interval now) 5) && leb 5 (countOf (isLive now interval) (places l))
-        full = rw (homes, count-same (lastNow l) interval _ _ (live-same (lastNow l) interval now) (places l) T alike)
+    full-same : fullIn T m interval now ≡ isFull l m interval now
+    unfolding fullIn
+    full-same = rw (homes, count-same (lastNow l) interval _ _ (live-same (lastNow l) interval now) (places l) T alike)
 
     -- one place has this Announce
     abbrev New : Arrival
     New = record { now = now; announce = m }
 
-    placed : (p : ℕ) (r : Record) → p < 5 → lastNow l ≤ now → Seat now interval (New ∷ at p l) r
+    placed : (p : ℕ) (r : Record) → p < 5 → lastNow l ≤ now → Seat now interval (New ∷ arrivalsAt p l) r
         → Tells interval (came p now m ∷ l) (record { table = record { records = set T p r }; last = now })
     unfolding all
     placed p r c later s = record { last = refl; five = length-set T p r ∙ h .five; seats = λ q. go q (eqb p q) refl }
       where
-        go : (q : ℕ) (b : Bool) → eqb p q ≡ b → Seat now interval (with-it (cond b (some New) none) (at q l)) (getD (set T p r) q emptyRecord)
+        go : (q : ℕ) (b : Bool) → eqb p q ≡ b → Seat now interval (with-it (cond b (some New) none) (arrivalsAt q l)) (getD (set T p r) q freshRecord)
         go q true e =
-            subst (λ (i : ℕ). Seat now interval (New ∷ at i l) (getD (set T p r) i emptyRecord)) (eqb-true p q e)
-            (rw (getD-set-same T p r emptyRecord (rw (h .five) c)) s)
+            subst (λ (i : ℕ). Seat now interval (New ∷ arrivalsAt i l) (getD (set T p r) i freshRecord)) (eqb-true p q e)
+            (rw (getD-set-same T p r freshRecord (rw (h .five) c)) s)
         go q false e =
-            rw (getD-set-other T p q r emptyRecord (λ i. eqb-false p q e (sym i))) (seat-later (lastNow l) now interval (at q l) (getD T q emptyRecord) later (h .seats q))
+            rw (getD-set-other T p q r freshRecord (λ i. eqb-false p q e (sym i))) (seat-later (lastNow l) now interval (arrivalsAt q l) (getD T q freshRecord) later (h .seats q))
 
     -- the answer, and the memory after it
     pub record Agrees (r : Admitted) (said : Answer) : Type 0 where
       pub says : r .answer ≡ said
-      pub tells : Tells interval (entered l now m said) (record { table = r .table; last = lastAfter (k .last) now (r .answer) })
+      pub tells : Tells interval (logBy l now m said) (record { table = r .table; last = lastAfter (k .last) now (r .answer) })
 
-    accepts : lastNow l ≤ now → firstOf (seating T m interval now) ≡ Clear → Agrees (acceptedOf T m interval now) (seat l m interval now Clear)
-    unfolding acceptedOf seating
-    accepts later clear =
+    accepts : lastNow l ≤ now → fullIn T m interval now ≡ false → Agrees (acceptedOf T m interval now) (seatBy l m interval now Clear)
+    unfolding acceptedOf fullIn
+    accepts later room =
         subst (λ (p : ℕ). Agrees (acceptedOf T m interval now) (cond (ltb p 5) (Renewed p) (Entered (free l m interval now)))) homes
         (subst (λ (f : ℕ). Agrees (acceptedOf T m interval now) (cond (ltb P 5) (Renewed P) (Entered f))) frees
-        (go (ltb P 5) refl (clear-cons _ _ (clear-cons _ _ clear .1) .0)))
+        (go (ltb P 5) refl room))
       where
         P : ℕ
         P = homeIn T m interval now
@@ -127,36 +124,31 @@ module _ (interval : ℕ) (l : Log) (k : Memory) (h : Tells interval l k) where
 
         go : (b : Bool) → ltb P 5 ≡ b → (not b && leb 5 (countOf (liveOf now interval) T)) ≡ false
             → Agrees
-            (cond b (record { answer = Renewed P; table = record { records = set T P (renewedOf (getD T P emptyRecord) m now) } })
+            (cond b (record { answer = Renewed P; table = record { records = set T P (renewedOf (getD T P freshRecord) m now) } })
             (record { answer = Entered F; table = record { records = set T F (enteredOf m now) } }))
             (cond b (Renewed P) (Entered F))
         go true e g =
             let c = ltb-true P 5 e in
-            record { says = refl; tells = placed P _ c later (renewed (lastNow l) interval now m later (at P l) (getD T P emptyRecord) (h .seats P) (known-home c)) }
+            record { says = refl; tells = placed P _ c later (renewed (lastNow l) interval now m later (arrivalsAt P l) (getD T P freshRecord) (h .seats P) (known-home c)) }
         go false e g =
             let n : countOf (liveOf now interval) T < length T = rw (h .five) (leb-false 5 (countOf (liveOf now interval) T) g) in
             let i = has-room (liveOf now interval) (absent now interval) (opposite now interval) T n in
             let c : F < 5 = rw (h .five) at i in
-            let d = sym (absent-same (lastNow l) interval now (at F l) (getD T F emptyRecord) (h .seats F)) ∙ place-holds (absent now interval) T emptyRecord i in
-            record { says = refl; tells = placed F _ c later (enters (lastNow l) interval now m later (at F l) (getD T F emptyRecord) (h .seats F) d) }
-
--- NOW is the first refusal
-not-before : (m : Announce) (domain : ℕ) (own : Port) (last now : ℕ) (rest : List Ground) → firstOf (entrance m domain own last now ++ rest) ≡ Clear → last ≤ now
-unfolding entrance
-not-before m domain own last now rest e = ltb-false now last (clear-cons _ _ e .0)
+            let d = sym (absent-same (lastNow l) interval now (arrivalsAt F l) (getD T F freshRecord) (h .seats F)) ∙ place-holds (absent now interval) T freshRecord i in
+            record { says = refl; tells = placed F _ c later (enters (lastNow l) interval now m later (arrivalsAt F l) (getD T F freshRecord) (h .seats F) d) }
 
 -- one Announce
 module _ (domain : ℕ) (own : Port) (a : ℕ) (l : Log) (k : Memory) (h : Tells (intervalOf a) l k) where
-  pub step : (m : Announce) (now : ℕ) → Agrees (intervalOf a) l k h m now (admits domain own a k m now) (answer domain own a l m now)
+  pub step : (m : Announce) (now : ℕ) → Agrees (intervalOf a) l k h m now (admissionOf domain own a k m now) (answer domain own a l m now)
   unfolding admittedOf answer
-  step m now = rw (← h .last, ← grounds-same (intervalOf a) l k h m now) (go (firstOf All) refl)
+  step m now =
+      rw (← h .last, ← repeat-same (intervalOf a) l k h m now, ← full-same (intervalOf a) l k h m now) (go (firstOf (groundsOf (k .table) m domain own a (k .last) now)) refl)
     where
-      All : List Ground
-      All = entrance m domain own (k .last) now ++ seating (k .table .records) m (intervalOf a) now
-
-      go : (v : Verdict) → firstOf All ≡ v
-          → Agrees (intervalOf a) l k h m now (given v (k .table) (acceptedOf (k .table .records) m (intervalOf a) now)) (seat l m (intervalOf a) now v)
-      go Clear e = accepts (intervalOf a) l k h m now (rw (h .last) at (not-before m domain own (k .last) now _ e)) (clear-append (entrance m domain own (k .last) now) _ e)
+      go : (v : Ruling) → firstOf (groundsOf (k .table) m domain own a (k .last) now) ≡ v
+          → Agrees (intervalOf a) l k h m now (admittedBy v (k .table) (acceptedOf (k .table .records) m (intervalOf a) now)) (seatBy l m (intervalOf a) now v)
+      go Clear e =
+          let n = clear-announce _ _ _ _ _ _ _ e in
+          accepts (intervalOf a) l k h m now (rw (h .last) at (ltb-false now (k .last) (n .0))) (n .2)
       go (Barred r) e = record { says = refl; tells = h }
 
   -- a call that carries now
@@ -166,18 +158,18 @@ module _ (domain : ℕ) (own : Port) (a : ℕ) (l : Log) (k : Memory) (h : Tells
     where
       go : (b : Bool) → ltb now (lastNow l) ≡ b → Tells (intervalOf a) (cond b l (passed now ∷ l)) (record { table = k .table; last = cond b (lastNow l) now })
       go true e = record { last = refl; five = h .five; seats = h .seats }
-      go false e = record { last = refl; five = h .five; seats = λ q. seat-later (lastNow l) now (intervalOf a) (at q l) _ (ltb-false now (lastNow l) e) (h .seats q) }
+      go false e = record { last = refl; five = h .five; seats = λ q. seat-later (lastNow l) now (intervalOf a) (arrivalsAt q l) _ (ltb-false now (lastNow l) e) (h .seats q) }
 
   -- the choice at now, where no accepted now lies above it
-  pub chooses : (now : ℕ) → lastNow l ≤ now → chosenOf (choiceOf (k .table .records) now a) ≡ chosen a l now
-  unfolding choiceOf chosen
+  pub chooses : (now : ℕ) → lastNow l ≤ now → chosenAt (k .table .records) now a ≡ chosenIn a l now
+  unfolding choiceOf chosenIn
   chooses now later =
       choice-same (those (qualifiedOf now (intervalOf a)) (inOrder (k .table .records)))
-      ∙ ap (λ (r : List Announce). asMaster (choiceAmong better r))
+      ∙ ap (λ (r : List Announce). asMaster (choiceAmong betterAnnounce r))
       (sym (those-same (lastNow l) (intervalOf a) now later (places l) (inOrder (k .table .records)) (in-places (intervalOf a) l k h)))
 
 -- an empty table
-unheld : (q : ℕ) → getD (emptyTable .records) q emptyRecord .held ≡ 0
+unheld : (q : ℕ) → getD (freshTable .records) q freshRecord .held ≡ 0
 unheld zero = refl
 unheld (suc zero) = refl
 unheld (suc (suc zero)) = refl
@@ -190,14 +182,14 @@ module _ (domain : ℕ) (own : Port) (a : ℕ) where
   pub tells : (happened : List Happening) → Tells (intervalOf a) (log domain own a happened) (machine domain own a happened)
   unfolding log machine all
   tells [] = record { last = refl; five = refl; seats = unheld }
-  tells (announces now m ∷ before) = step domain own a (log domain own a before) (machine domain own a before) (tells before) m now .tells
-  tells (calls now ∷ before) = step-now domain own a (log domain own a before) (machine domain own a before) (tells before) now
+  tells (arrives now m ∷ before) = step domain own a (log domain own a before) (machine domain own a before) (tells before) m now .tells
+  tells (passes now ∷ before) = step-now domain own a (log domain own a before) (machine domain own a before) (tells before) now
 
   -- the theorems
   pub refines : (before : List Happening) (m : Announce) (now : ℕ)
-      → admits domain own a (machine domain own a before) m now .answer ≡ answer domain own a (log domain own a before) m now
+      → admissionOf domain own a (machine domain own a before) m now .answer ≡ answer domain own a (log domain own a before) m now
   refines before m now = step domain own a (log domain own a before) (machine domain own a before) (tells before) m now .says
 
   pub chosen-told : (before : List Happening) (now : ℕ) → lastNow (log domain own a before) ≤ now
-      → chosenOf (choiceOf (machine domain own a before .table .records) now a) ≡ chosen a (log domain own a before) now
+      → chosenAt (machine domain own a before .table .records) now a ≡ chosenIn a (log domain own a before) now
   chosen-told before now later = chooses domain own a (log domain own a before) (machine domain own a before) (tells before) now later

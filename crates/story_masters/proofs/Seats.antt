@@ -13,7 +13,7 @@ use Rattle.rules_masters.specs.declared.record.Record.{Record}
 use Rattle.rules_masters.specs.Records.{liveOf, knownOf, qualifiedOf, sameKeyOf, enteredOf, renewedOf}
 use Rattle.rules_masters.specs.Places.{absent}
 use Rattle.story_lists.specs.Reading.{all, newest, first, with-it}
-use Rattle.story_masters.specs.Announces.{Arrival, senderOf, isLive, isHome, twoGood, from, qualified}
+use Rattle.story_masters.specs.Announces.{Arrival, senderOf, isLive, isHome, twoGood, from, aQualified}
 
 -- none of these came after n
 abbrev pub NotAfter : ℕ → List Arrival → Type 0
@@ -80,7 +80,7 @@ module _ (last interval now : ℕ) where
   unfolding absent
   absent-same these r h = rw (live-same these r h)
 
-  pub qualified-same : last ≤ now → (these : List Arrival) (r : Record) → Seat last interval these r → qualified now interval these ≡ cond (qualifiedOf now interval r) (some (r .announce)) none
+  pub qualified-same : last ≤ now → (these : List Arrival) (r : Record) → Seat last interval these r → aQualified now interval these ≡ cond (qualifiedOf now interval r) (some (r .announce)) none
   unfolding qualifiedOf
   qualified-same k [] r h = rw h
   qualified-same k (a ∷ l) r h = go (newest (from (senderOf (a .announce))) l) (h .older)

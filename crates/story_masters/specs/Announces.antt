@@ -1,4 +1,4 @@
--- The log of the masters: every Announce accepted, with the place that it was given, and the nows of all other calls accepted. The newest stands first.
+-- The log of the masters: every Announce accepted, with the place that it was given, and the nows of all other calls accepted. The newest comes first.
 use mathlib.Core.List.{List, [], _∷_}
 use mathlib.Core.Option.{Option, none, some}
 use mathlib.Core.Bool.{Bool, false, cond, _&&_}
@@ -7,17 +7,17 @@ use lib.Dec.{leb, eqb}
 use Rattle.wire_layout.specs.declared.message.Port.{Port}
 use Rattle.rules_masters.specs.declared.record.Announce.{Announce}
 use Rattle.rules_masters.specs.Records.{sameKeyOf}
-use Rattle.rules_masters.specs.Comparison.{smaller, merits, distance}
+use Rattle.rules_masters.specs.Comparison.{smaller, merits, nearness}
 use Rattle.story_lists.specs.Reading.{all, newest}
 
-pub data Line : Type 0 where
-  came : (place now : ℕ) (m : Announce) → Line
-  passed : (now : ℕ) → Line
+pub data Entry : Type 0 where
+  came : (place now : ℕ) (m : Announce) → Entry
+  passed : (now : ℕ) → Entry
 
 abbrev pub Log : Type 0
-Log = List Line
+Log = List Entry
 
--- the last accepted now; "A fresh unit .. now 0"
+-- the last accepted now, 0 before any (rules 1.8 and 10.12)
 abbrev pub lastNow : Log → ℕ
 lastNow [] = 0
 lastNow (came p now m ∷ l) = now
@@ -31,18 +31,18 @@ abbrev pub senderOf : Announce → Port
 senderOf m = m .header .source
 
 -- ---- a place is read as the Announces that were given it
-abbrev pub toPlace : ℕ → Line → Option Arrival
+abbrev pub toPlace : ℕ → Entry → Option Arrival
 toPlace q (came p now m) = cond (eqb p q) (some (record { now = now; announce = m })) none
 toPlace q (passed now) = none
 
-abbrev pub at : ℕ → Log → List Arrival
-at q l = all (toPlace q) l
+abbrev pub arrivalsAt : ℕ → Log → List Arrival
+arrivalsAt q l = all (toPlace q) l
 
 abbrev pub places : Log → List (List Arrival)
-places l = at 0 l ∷ at 1 l ∷ at 2 l ∷ at 3 l ∷ at 4 l ∷ []
+places l = arrivalsAt 0 l ∷ arrivalsAt 1 l ∷ arrivalsAt 2 l ∷ arrivalsAt 3 l ∷ arrivalsAt 4 l ∷ []
 
 module _ (now interval : ℕ) where
-  -- "It is live while now is at most 4 intervals past the newer arrival"
+  -- live (rule 5.4)
   abbrev pub isLive : List Arrival → Bool
   isLive [] = false
   isLive (a ∷ l) = leb now (a .now + 4 * interval)
@@ -52,7 +52,7 @@ module _ (now interval : ℕ) where
   isHome sender [] = false
   isHome sender (a ∷ l) = leb now (a .now + 4 * interval) && sameKeyOf (senderOf (a .announce)) sender
 
-  -- "It is qualified with two arrivals, the older at most 4 intervals ago, the newer at most 3."
+  -- an arrival and the one before it, neither too long ago (rule 5.8)
   abbrev pub twoGood : Arrival → Option Arrival → Bool
   twoGood a none = false
   twoGood a (some b) = leb now (b .now + 4 * interval) && leb now (a .now + 3 * interval)
@@ -61,12 +61,11 @@ module _ (now interval : ℕ) where
 abbrev pub from : Port → Arrival → Option Arrival
 from sender a = cond (sameKeyOf (senderOf (a .announce)) sender) (some a) none
 
--- the Announce that stands at a place, where it is qualified: the last one, and the last one before it of the same sender
-abbrev pub qualified : ℕ → ℕ → List Arrival → Option Announce
-qualified now interval [] = none
-qualified now interval (a ∷ l) = cond (twoGood now interval a (newest (from (senderOf (a .announce))) l)) (some (a .announce)) none
+-- the last Announce at a place, where it and the last one before it of the same sender make the place qualified
+abbrev pub aQualified : ℕ → ℕ → List Arrival → Option Announce
+aQualified now interval [] = none
+aQualified now interval (a ∷ l) = cond (twoGood now interval a (newest (from (senderOf (a .announce))) l)) (some (a .announce)) none
 
--- a is better than b: "grandmaster identities differ: priority1, class, accuracy, log variance, priority2, identity, smaller wins. Equal: fewer
--- stepsRemoved, then the smaller sender port identity."
-abbrev pub better : Announce → Announce → Bool
-better a b = cond (eqb (a .offer .grandmaster) (b .offer .grandmaster)) (smaller (distance a) (distance b)) (smaller (merits (a .offer)) (merits (b .offer)))
+-- a is better than b (rules 5.9 and 5.10)
+abbrev pub betterAnnounce : Announce → Announce → Bool
+betterAnnounce a b = cond (eqb (a .offer .grandmaster) (b .offer .grandmaster)) (smaller (nearness a) (nearness b)) (smaller (merits (a .offer)) (merits (b .offer)))

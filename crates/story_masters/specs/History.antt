@@ -10,26 +10,26 @@ use Rattle.rules_masters.specs.declared.admission.Admitted.{Admitted}
 use Rattle.rules_masters.specs.declared.admission.Answer.{Answer}
 use Rattle.rules_masters.specs.declared.admission.Answer.the-variants.{Refused, Renewed, Entered}
 use Rattle.rules_masters.specs.Admitting.{admittedOf}
-use Rattle.rules_masters.specs.Places.{emptyTable}
+use Rattle.rules_masters.specs.Places.{freshTable}
 use Rattle.story_masters.specs.Announces.{Log, came, passed, lastNow}
 use Rattle.story_masters.specs.Places.{answer}
 
 pub data Happening : Type 0 where
-  announces : (now : ℕ) (m : Announce) → Happening
+  arrives : (now : ℕ) (m : Announce) → Happening
   -- any other call that carries now, and is not refused for another reason
-  calls : (now : ℕ) → Happening
+  passes : (now : ℕ) → Happening
 
--- one that is refused leaves no line
-abbrev pub entered : Log → ℕ → Announce → Answer → Log
-entered l now m (Refused r) = l
-entered l now m (Renewed p) = came p now m ∷ l
-entered l now m (Entered p) = came p now m ∷ l
+-- one that is refused leaves no entry
+abbrev pub logBy : Log → ℕ → Announce → Answer → Log
+logBy l now m (Refused r) = l
+logBy l now m (Renewed p) = came p now m ∷ l
+logBy l now m (Entered p) = came p now m ∷ l
 
 module _ (domain : ℕ) (own : Port) (a : ℕ) where
   unfoldable pub log : List Happening → Log
   log [] = []
-  log (announces now m ∷ before) = entered (log before) now m (answer domain own a (log before) m now)
-  log (calls now ∷ before) = cond (ltb now (lastNow (log before))) (log before) (passed now ∷ log before)
+  log (arrives now m ∷ before) = logBy (log before) now m (answer domain own a (log before) m now)
+  log (passes now ∷ before) = cond (ltb now (lastNow (log before))) (log before) (passed now ∷ log before)
 
 -- ---- the machine: the table, and the last accepted now
 pub record Memory : Type 0 where
@@ -42,14 +42,14 @@ lastAfter last now (Renewed p) = now
 lastAfter last now (Entered p) = now
 
 module _ (domain : ℕ) (own : Port) (a : ℕ) where
-  abbrev pub admits : Memory → Announce → ℕ → Admitted
-  admits k m now = admittedOf (k .table) m domain own a (k .last) now
+  abbrev pub admissionOf : Memory → Announce → ℕ → Admitted
+  admissionOf k m now = admittedOf (k .table) m domain own a (k .last) now
 
   unfoldable pub machine : List Happening → Memory
-  machine [] = record { table = emptyTable; last = 0 }
-  machine (announces now m ∷ before) =
+  machine [] = record { table = freshTable; last = 0 }
+  machine (arrives now m ∷ before) =
       let k = machine before in
-      record { table = admits k m now .table; last = lastAfter (k .last) now (admits k m now .answer) }
-  machine (calls now ∷ before) =
+      record { table = admissionOf k m now .table; last = lastAfter (k .last) now (admissionOf k m now .answer) }
+  machine (passes now ∷ before) =
       let k = machine before in
       record { table = k .table; last = cond (ltb now (k .last)) (k .last) now }

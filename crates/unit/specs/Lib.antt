@@ -1,2 +1,3 @@
+pub mod Receiving
 pub mod Calls
-pub mod Story
+pub mod Machine

@@ -1,19 +1,26 @@
-// The card: the unit of document 01 whole, with its servo, its table of masters and its watch. One step for each call.
+// The unit whole: its core with its servo, its table of masters and its watch. One step for each call.
 ghost use mathlib.Core.Path.{_≡_};
 ghost use lib.ListN.{length};
-ghost use Rattle.unit_core.specs.Frame.{frameAfter};
-ghost use Rattle.unit.specs.Calls.{freshUnit, putBy, receiveOf, stepOf};
+ghost use Rattle.unit_measuring.specs.Frame.{frameAfter};
+ghost use Rattle.unit.specs.Calls.{freshUnit, unitAfter, receiveOf, stepOf};
 use numbers::stamp::Stamp;
 use rules_masters::record::Announce;
 use rules_masters::table::Table;
 use rules_servo::Servo;
 use rules_settings::Settings;
 use rules_watch::Watch;
+use unit_choosing::announce;
+use unit_choosing::time;
 use unit_core::Core;
 use unit_core::Moved;
 use unit_core::calls::Answer;
 use unit_core::calls::Call;
-use unit_core::frame;
+use unit_measuring::asking::request;
+use unit_measuring::asking::sent;
+use unit_measuring::frame;
+use unit_measuring::hearing::heard;
+use unit_ticking::line;
+use unit_ticking::tick;
 use wire_layout::message::Body;
 use wire_layout::message::Message;
 
@@ -42,9 +49,9 @@ impl Unit {
         }
     }
 
-    // Unit and servo as a call left them, and a fresh watch where it wiped.
+    // Core and servo as a call left them, and a fresh watch where it wiped.
     fn after(mut self, moved: Moved) -> Stepped
-        ensures { λ r. ⌜ r ≡ putBy self moved ⌝ }
+        ensures { λ r. ⌜ r ≡ unitAfter self moved ⌝ }
     {
         let core = moved.core;
         let servo = moved.servo;
@@ -73,26 +80,26 @@ impl Unit {
         let body = m.body;
         match body {
             Body::Announce(stamp, offer) => {
-                let announce = Announce {
+                let m = Announce {
                     header,
                     stamp,
                     offer,
                 };
-                let seated = core.announce(self.servo, self.table, now, announce);
+                let seated = announce(core, self.servo, self.table, now, m);
                 let table = seated.table;
                 self.table = table;
                 self.after(seated.moved)
             }
-            _ => self.after(core.heard(self.servo, now, arrival, m)),
+            _ => self.after(heard(core, self.servo, now, arrival, m)),
         }
     }
 
     // A second pulse.
-    fn tick(mut self, reference: i64, clock: i64) -> Stepped
+    fn pulse(mut self, reference: i64, clock: i64) -> Stepped
         ensures { λ r. ⌜ r ≡ stepOf self (Call.Tick reference clock) ⌝ }
     {
         let core = self.core;
-        let ticked = core.tick(self.servo, self.watch, reference, clock);
+        let ticked = tick(core, self.servo, self.watch, reference, clock);
         let watch = ticked.watch;
         self.watch = watch;
         self.after(ticked.moved)
@@ -105,20 +112,20 @@ impl Unit {
         let core = self.core;
         match call {
             Call::Receive(now, arrival, m) => self.receive(now, arrival, m),
-            Call::Request(now, room) => self.after(core.request(self.servo, now, room)),
+            Call::Request(now, room) => self.after(request(core, self.servo, now, room)),
             Call::Sent(now, sequence, t3) => {
-                self.after(core.sent(self.servo, now, sequence, t3))
+                self.after(sent(core, self.servo, now, sequence, t3))
             }
-            Call::Time(now) => self.after(core.time(self.servo, self.table, now)),
+            Call::Time(now) => self.after(time(core, self.servo, self.table, now)),
             Call::Reset => self.after(core.reset()),
-            Call::Tick(reference, clock) => self.tick(reference, clock),
-            Call::Line => self.says(core.line(self.watch)),
+            Call::Tick(reference, clock) => self.pulse(reference, clock),
+            Call::Line => self.says(line(core, self.watch)),
             Call::Show => self.says(core.show(self.servo)),
         }
     }
 }
 
-// The request into a lent frame: the unit's own Delay_Req stands behind the Ethernet header, or nothing is touched.
+// The request into a lent frame: the unit's own Delay_Req is put behind the Ethernet header, or nothing is touched.
 pub fn request_into(unit: Unit, time: u64, frame: &mut [u8]) -> Stepped
     ensures { λ r. ⌜ r ≡ stepOf unit (Call.Request time (length (now (frame .entry)))) ⌝ }
     ensures { λ _. ⌜ now (frame .exit) ≡ frameAfter (unit .core) time (now (frame .entry)) ⌝ }

@@ -1,10 +1,4 @@
 pub mod Wipe
 pub mod Effects
-pub mod Choosing
-pub mod Measuring
-pub mod Ticking
+pub mod Answers
 pub mod Showing
-pub mod Hearing
-pub mod Receiving
-pub mod Frame
-pub mod Refusing

@@ -1,22 +1,22 @@
--- What the unit shows: document 01, "Masters".
+-- What the unit shows: section 6 of docs/RULES.md.
 use Prim.Native.Nat.{ℕ}
 use mathlib.Core.Bool.{Bool, cond}
-use Rattle.rules_servo.specs.Shows.{isHoldover, showing}
+use Rattle.rules_servo.specs.Shows.{isHoldover, shownOf}
 use Rattle.unit_core.specs.declared.calls.PortState.{PortState}
 use Rattle.unit_core.specs.declared.calls.PortState.the-variants.{Faulty, Listening, Uncalibrated, Slave}
 use Rattle.unit_core.specs.declared.calls.Shows.{Shows}
-use Rattle.unit_core.specs.Effects.{Stays, Ran}
+use Rattle.unit_core.specs.Effects.{Stays, Progress}
 
--- "The port is FAULTY, else LISTENING without master, UNCALIBRATED before an accepted measurement since the wipe, SLAVE after."
+-- rule 6.1: the port's four states
 abbrev pub portOf : Bool → Bool → Bool → PortState
 portOf faulty chosen measured = cond faulty Faulty (cond chosen (cond measured Slave Uncalibrated) Listening)
 
--- "The servo shows HOLDOVER when now is over 10,000 ms past the last accepted measurement since the wipe; else TRACKING ..; else ADJUSTING."
-abbrev pub showsOf : Stays → Ran → ℕ → Shows
+-- rules 6.1, 6.2 and 6.6: the port, the servo, and what else is shown
+abbrev pub showsOf : Stays → Progress → ℕ → Shows
 showsOf k r count =
     record {
       port = portOf (k .faulty) (k .chosen .some) (r .measured);
-      servo = showing (r .servo) (isHoldover (r .measured) (r .at) (k .now));
+      servo = shownOf (r .servo) (isHoldover (r .measured) (r .at) (k .now));
       output = r .servo .output;
       now = k .now;
       master = k .chosen;

@@ -1,11 +1,12 @@
 // The calls that a unit takes, and its answers.
 use numbers::refusal::Refusal;
 use numbers::stamp::Stamp;
-use numbers::units::Nanoseconds;
 use numbers::units::Ppb;
-use rules_exchange::Accepted;
+use rules_exchange::said::Said;
 use rules_masters::chosen::Chosen;
+use rules_masters::chosen::Decision;
 use rules_servo::shown::Shown;
+use rules_watch::Pulse;
 use rules_watch::totals::Line;
 use wire_layout::message::Message;
 
@@ -38,30 +39,13 @@ pub struct Shows {
     pub sequence: u16, // of the next request
 }
 
-// The nine causes of a wipe can be told apart: Changed (a new master, or none), Step, PathWiped, Back, TickBack, Range, Jump, Wiped.
+// The answers of the choice, of the exchange and of the watch are one case each. Which of them wipe is said in specs/Answers.antt.
 pub enum Answer {
     Refused(Refusal),
-    Chose(Chosen), // the master as before, or still none
-    Changed(Chosen), // a new or lost master: wiped
-    Held, // the Sync is held
-    Paired, // the Follow_Up gave t1
-    Asked(u16), // the request has this sequenceId
-    Stamped, // t3 is given
-    Back, // t2 or t3 below the last local stamp: wiped
-    Measured(Accepted, Ppb), // and the output
-    Neg,
-    Long,
-    Huge,
-    HugeFaulty, // the third in a row
-    Path,
-    PathWiped, // the third in a row
-    Step(Nanoseconds), // wiped
+    Choice(Decision), // of an Announce, or of a time call
+    Exchange(Said, Ppb), // with the output that is set after it
+    Watch(Pulse),
     Wiped, // the operator's reset
-    Valid, // the sample is taken
-    Invalid, // taken, and marked invalid
-    TickBack, // reference not above the previous: wiped
-    Range, // wiped
-    Jump, // wiped
     Line(Line, u32), // with the wipe count
     Shows(Shows),
 }

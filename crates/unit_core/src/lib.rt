@@ -1,23 +1,16 @@
-// The unit: what each call of document 01 does, on the parts it touches. One wipe for all.
+// The core of the unit: what is held of it beside servo, table and watch, which are lent; its calls and answers; the wipe; what it shows.
 pub mod calls;
-pub mod choosing;
-pub mod frame;
-pub mod hearing;
-pub mod measuring;
 pub mod run;
 pub mod showing;
-pub mod ticking;
 
 ghost use mathlib.Core.Path.{_≡_};
-ghost use Rattle.unit_core.specs.Wipe.{wipedFrom, freshDomain, freshCore};
-ghost use Rattle.unit_core.specs.Effects.{staysOf, at, unlocked, keptBy, wipedBy};
+ghost use Rattle.unit_core.specs.Wipe.{freshDomain, freshCore};
+ghost use Rattle.unit_core.specs.Effects.{staysOf, withNow, unlocked, keptCore, wipedCore};
 use calls::Answer;
 use numbers::refusal::Refusal;
 use rules_masters::chosen::Chosen;
-use rules_masters::table::Table;
 use rules_servo::Servo;
 use rules_settings::Settings;
-use rules_watch::Watch;
 use run::Run;
 
 // What belongs to one domain.
@@ -30,7 +23,6 @@ pub struct Domain {
     pub sequence: u16, // of the next request
 }
 
-// The unit, without what is lent beside it: the servo, the table of masters, the watch.
 #[repr(C)]
 pub struct Core {
     pub settings: Settings,
@@ -38,24 +30,12 @@ pub struct Core {
     pub domain: Domain,
 }
 
-// What a call leaves.
+// What a call leaves of core and servo.
 pub struct Moved {
     pub answer: Answer,
-    pub wipes: bool, // the watch is to be fresh too
+    pub wipes: bool, // whoever holds the watch is to make it fresh
     pub core: Core,
     pub servo: Servo,
-}
-
-// What an Announce leaves.
-pub struct Seated {
-    pub table: Table,
-    pub moved: Moved,
-}
-
-// What a second pulse leaves.
-pub struct Ticked {
-    pub watch: Watch,
-    pub moved: Moved,
 }
 
 impl Domain {
@@ -69,14 +49,6 @@ impl Domain {
             faulty: false,
             sequence: 0,
         }
-    }
-
-    fn wiped(mut self) -> Domain
-        ensures { λ r. ⌜ r ≡ wipedFrom self ⌝ }
-    {
-        self.run = Run::fresh();
-        self.wipes = ((self.wipes as u64 + 1) % 4294967296) as u32;
-        self
     }
 }
 
@@ -92,15 +64,15 @@ impl Core {
     }
 
     // A refusal returns its number, and what came in.
-    pub(crate) fn refuse(self, servo: Servo, number: Refusal) -> Moved
-        ensures { λ r. ⌜ r ≡ keptBy self servo (Answer.Refused number) ⌝ }
+    pub fn refuse(self, servo: Servo, number: Refusal) -> Moved
+        ensures { λ r. ⌜ r ≡ keptCore self servo (Answer.Refused number) ⌝ }
     {
         self.keep(servo, Answer::Refused(number))
     }
 
     // Nothing but the answer.
-    pub(crate) fn keep(self, servo: Servo, answer: Answer) -> Moved
-        ensures { λ r. ⌜ r ≡ keptBy self servo answer ⌝ }
+    pub fn keep(self, servo: Servo, answer: Answer) -> Moved
+        ensures { λ r. ⌜ r ≡ keptCore self servo answer ⌝ }
     {
         Moved {
             answer,
@@ -110,14 +82,17 @@ impl Core {
         }
     }
 
-    // The wipe: a fresh run and a fresh servo, and the count up by one. Chosen master, now and own sequenceId remain, and so does FAULTY.
-    pub(crate) fn wipe(mut self, now: u64, answer: Answer) -> Moved
-        ensures { λ r. ⌜ r ≡ wipedBy self answer (at now (staysOf self)) ⌝ }
+    // The wipe, for every cause: run and servo are made fresh here and nowhere else, and the count goes up by one. Chosen master, now, own
+    // sequenceId and FAULTY remain.
+    pub fn wipe(mut self, now: u64, answer: Answer) -> Moved
+        ensures { λ r. ⌜ r ≡ wipedCore self answer (withNow now (staysOf self)) ⌝ }
     {
-        let domain = self.domain;
-        let wiped = domain.wiped();
+        let mut domain = self.domain;
+        let run = Run::fresh();
+        domain.run = run;
+        domain.wipes = ((domain.wipes as u64 + 1) % 4_294_967_296) as u32;
         self.now = now;
-        self.domain = wiped;
+        self.domain = domain;
         let servo = Servo::fresh(self.settings.kp, self.settings.ki);
         Moved {
             answer,
@@ -129,7 +104,7 @@ impl Core {
 
     // The operator's reset, which alone ends FAULTY.
     pub fn reset(mut self) -> Moved
-        ensures { λ r. ⌜ r ≡ wipedBy self Answer.Wiped (unlocked (staysOf self)) ⌝ }
+        ensures { λ r. ⌜ r ≡ wipedCore self Answer.Wiped (unlocked (staysOf self)) ⌝ }
     {
         let mut domain = self.domain;
         domain.faulty = false;

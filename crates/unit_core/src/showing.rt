@@ -1,6 +1,6 @@
-// What the unit shows. Never refused.
+// What the unit shows (rules 6.5 and 6.6). Never refused (rule 3.65).
 ghost use mathlib.Core.Path.{_≡_};
-ghost use Rattle.unit_core.specs.Effects.{staysOf, ranOf};
+ghost use Rattle.unit_core.specs.Effects.{staysOf, progressOf};
 ghost use Rattle.unit_core.specs.Showing.{portOf, showsOf};
 use crate::Core;
 use crate::calls::Answer;
@@ -28,7 +28,7 @@ fn port(faulty: bool, chosen: bool, measured: bool) -> PortState
 
 impl Core {
     pub fn show(self, servo: Servo) -> Answer
-        ensures { λ r. ⌜ r ≡ Answer.Shows (showsOf (staysOf self) (ranOf self servo) (self .domain .wipes)) ⌝ }
+        ensures { λ r. ⌜ r ≡ Answer.Shows (showsOf (staysOf self) (progressOf self servo) (self .domain .wipes)) ⌝ }
     {
         let domain = self.domain;
         let run = domain.run;

@@ -13,9 +13,9 @@ ghost use mathlib.Core.List.{_++_};
 ghost use Prim.Native.Nat.{_-_};
 ghost use lib.ListN.{length, take, drop};
 ghost use Rattle.wire_layout.specs.Writing.{writeOf, leftBy};
-ghost use Rattle.wire_frames.specs.Frames.{requestOf, thereAndBack, backAndThere, copied};
+ghost use Rattle.wire_frames.specs.Frames.{requestOf, writtenRead, readWritten, copied};
 
-// A message into a frame: behind its 14 octets of Ethernet header, which are not lent on. A shorter frame lends an empty part.
+// A message into a frame: behind its 14 octets of Ethernet header, which are not lent on (rules 2.12 and 12.10). A shorter frame lends an empty part.
 pub fn write_frame(m: Message, suffix: &[u8], frame: &mut [u8]) -> Written
     ensures { λ r. ⌜ r ≡ writeOf m (now (suffix .entry)) (length (now (frame .entry)) - 14) ⌝ }
     ensures { λ _. ⌜ now (frame .exit) ≡ take 14 (now (frame .entry)) ++ leftBy (writeOf m (now (suffix .entry)) (length (now (frame .entry)) - 14)) m (now (suffix .entry)) (drop 14 (now (frame .entry))) ⌝ }
@@ -27,7 +27,7 @@ pub fn write_frame(m: Message, suffix: &[u8], frame: &mut [u8]) -> Written
     write(m, suffix, &mut frame[14..])
 }
 
-// The unit's own Delay_Req: zeros except domain, own port identity, sequenceId, control 1 and log interval 0x7F.
+// The unit's own Delay_Req (rule 2.13).
 pub fn request(domain: u8, own: Port, sequence: u16) -> Message
     ensures { λ r. ⌜ r ≡ requestOf domain own sequence ⌝ }
 {
@@ -46,16 +46,13 @@ pub fn request(domain: u8, own: Port, sequence: u16) -> Message
     };
     Message {
         header,
-        body: Body::DelayReq(Stamp {
-            seconds: 0,
-            nanoseconds: 0,
-        }),
+        body: Body::DelayReq(Stamp::zero()),
     }
 }
 
 // There and back: the message is written into the lent part and read again.
 pub fn written_read(m: Message, suffix: &[u8], part: &mut [u8]) -> Read
-    ensures { λ r. ⌜ r ≡ thereAndBack m (writeOf m (now (suffix .entry)) (length (now (part .entry)))) ⌝ }
+    ensures { λ r. ⌜ r ≡ writtenRead m (writeOf m (now (suffix .entry)) (length (now (part .entry)))) ⌝ }
     ensures { λ _. ⌜ now (part .exit) ≡ leftBy (writeOf m (now (suffix .entry)) (length (now (part .entry)))) m (now (suffix .entry)) (now (part .entry)) ⌝ }
 {
     match write(m, suffix, part) {
@@ -66,8 +63,8 @@ pub fn written_read(m: Message, suffix: &[u8], part: &mut [u8]) -> Read
 
 // Back and there: octets are read, and the message with its suffix is written into the lent part.
 pub fn read_written(s: &[u8], part: &mut [u8]) -> Written
-    ensures { λ r. ⌜ r ≡ backAndThere (now (s .entry)) (length (now (part .entry))) ⌝ }
-    ensures { λ _. ⌜ now (part .exit) ≡ copied (backAndThere (now (s .entry)) (length (now (part .entry)))) (now (s .entry)) (now (part .entry)) ⌝ }
+    ensures { λ r. ⌜ r ≡ readWritten (now (s .entry)) (length (now (part .entry))) ⌝ }
+    ensures { λ _. ⌜ now (part .exit) ≡ copied (readWritten (now (s .entry)) (length (now (part .entry)))) (now (s .entry)) (now (part .entry)) ⌝ }
 {
     match read(s) {
         Read::Refused(r) => Written::Barred(r),

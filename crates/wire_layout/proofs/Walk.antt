@@ -13,7 +13,7 @@ use Rattle.wire_layout.proofs.Known.{choose}
 use Rattle.wire_octets.specs.Octets.{num}
 use Rattle.wire_layout.specs.declared.suffix.Tlv.{Tlv}
 use Rattle.wire_layout.specs.declared.suffix.Tlv.the-variants.{End, Whole, Broken}
-use Rattle.wire_layout.specs.Suffix.{tlvOf, wholeFrom, wholeBy, wholeOf}
+use Rattle.wire_layout.specs.Suffix.{tlvOf, wholeFrom, wholeWithin, wholeOf}
 
 -- a number behind `at` octets
 pub num-drop : (k j at : ℕ) (s : List ℕ) → num k j (drop at s) ≡ num k (at + j) s
@@ -68,26 +68,26 @@ room u =
 
 -- what a walk that has come to `at` still has to find out
 pub data Rest (t : List ℕ) (at : ℕ) : Type 0 where
-  rest : (f : ℕ) → length t - at < f → wholeOf t ≡ wholeBy f (drop at t) → Rest t at
+  rest : (f : ℕ) → length t - at < f → wholeOf t ≡ wholeWithin f (drop at t) → Rest t at
 
 pub start : (t : List ℕ) → Rest t 0
 start t = rest (suc (length t)) (omega arith) refl
 
 module _ (t : List ℕ) (at : ℕ) where
   pub ends : Rest t at → tlvOf (drop at t) ≡ End → wholeOf t ≡ true
-  unfolding wholeBy
+  unfolding wholeWithin
   ends (rest zero e s) h = absurd (omega arith)
-  ends (rest (suc f) e s) h = s ∙ ap (wholeFrom (wholeBy f) (drop at t)) h
+  ends (rest (suc f) e s) h = s ∙ ap (wholeFrom (wholeWithin f) (drop at t)) h
 
   pub breaks : Rest t at → tlvOf (drop at t) ≡ Broken → wholeOf t ≡ false
-  unfolding wholeBy
+  unfolding wholeWithin
   breaks (rest zero e s) h = absurd (omega arith)
-  breaks (rest (suc f) e s) h = s ∙ ap (wholeFrom (wholeBy f) (drop at t)) h
+  breaks (rest (suc f) e s) h = s ∙ ap (wholeFrom (wholeWithin f) (drop at t)) h
 
   pub fits : (k n : ℕ) → tlvOf (drop at t) ≡ Whole k n → at + 4 + n ≤ length t
   fits k n h = omega (arith, rw h at (room (drop at t)), length-drop at t)
 
   pub next : (k n : ℕ) → Rest t at → tlvOf (drop at t) ≡ Whole k n → Rest t (at + 4 + n)
-  unfolding wholeBy
+  unfolding wholeWithin
   next k n (rest zero e s) h = absurd (omega arith)
-  next k n (rest (suc f) e s) h = rest f (omega (arith, fits k n h)) (s ∙ ap (wholeFrom (wholeBy f) (drop at t)) h ∙ rw (drop-drop, add-assoc))
+  next k n (rest (suc f) e s) h = rest f (omega (arith, fits k n h)) (s ∙ ap (wholeFrom (wholeWithin f) (drop at t)) h ∙ rw (drop-drop, add-assoc))

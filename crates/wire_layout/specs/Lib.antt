@@ -1,3 +1,4 @@
+-- Messages as they lie in octets, and what reading and writing answer.
 pub mod Kinds
 pub mod Positions
 pub mod Suffix

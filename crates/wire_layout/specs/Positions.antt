@@ -1,4 +1,4 @@
--- Where each field stands: document 01, "Message layout" (IEEE 1588-2019, clause 13). `num k at s` is the number in the k octets from `at`.
+-- Where each field lies (rules 2.2 to 2.7; IEEE 1588-2019, clause 13). `num k at s` is the number in the k octets from `at`.
 use mathlib.Core.Bool.{cond}
 use mathlib.Core.List.{List}
 use Prim.Native.Nat.{ℕ, _+_, _/_, _%_}
@@ -15,7 +15,7 @@ use Rattle.wire_layout.specs.declared.message.Body.{Body}
 use Rattle.wire_layout.specs.declared.message.Body.the-variants.{Sync, DelayReq, FollowUp, DelayResp, Announce}
 use Rattle.wire_layout.specs.declared.message.Message.{Message}
 
--- 0 majorSdoId (high four bits), kind (low four); 1 minor version (high), version (low); 2-3 messageLength
+-- the lower halves of the first two octets, and the two octets behind them
 abbrev pub kindIn : List ℕ → ℕ
 kindIn s = getD s 0 0 % 16
 

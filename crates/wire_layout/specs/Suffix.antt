@@ -1,4 +1,4 @@
--- A suffix of whole, even TLVs: type 2 octets, length 2, value; the last ends where the suffix does.
+-- A suffix of whole, even TLVs (rule 2.8): two octets of type, two of length, the value; the last ends where the suffix does.
 use mathlib.Core.Bool.{Bool, true, false, cond}
 use mathlib.Core.List.{List}
 use Prim.Native.Nat.{ℕ, zero, suc, _+_, _-_, _%_}
@@ -17,16 +17,16 @@ tlvOf t =
     (cond (ltb (length t - 4) (num 2 2 t)) Broken (Whole (num 2 0 t) (num 2 2 t)))
     Broken))
 
--- whether t is whole TLVs, by what it begins with and by `rest` for what stands behind that
+-- whether t is whole TLVs, by what it begins with and by `rest` for what follows
 abbrev pub wholeFrom : (List ℕ → Bool) → List ℕ → Tlv → Bool
 wholeFrom rest t End = true
 wholeFrom rest t (Whole k n) = rest (drop (4 + n) t)
 wholeFrom rest t Broken = false
 
-unfoldable pub wholeBy : ℕ → List ℕ → Bool
-wholeBy zero t = false
-wholeBy (suc turns) t = wholeFrom (wholeBy turns) t (tlvOf t)
+unfoldable pub wholeWithin : ℕ → List ℕ → Bool
+wholeWithin zero t = false
+wholeWithin (suc turns) t = wholeFrom (wholeWithin turns) t (tlvOf t)
 
 -- `length t` turns are enough, since each takes four octets or more
 abbrev pub wholeOf : List ℕ → Bool
-wholeOf t = wholeBy (suc (length t)) t
+wholeOf t = wholeWithin (suc (length t)) t

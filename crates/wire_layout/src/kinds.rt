@@ -1,6 +1,6 @@
-// The five kinds of message: each one's number and fixed length.
+// The five kinds of message: each one's number and fixed length (rules 2.5 and 12.8).
 ghost use mathlib.Core.Path.{_≡_};
-ghost use Rattle.wire_layout.specs.Kinds.{fixedOf};
+ghost use Rattle.wire_layout.specs.Kinds.{fixedLengthOf};
 
 pub struct Sync {}
 
@@ -44,7 +44,7 @@ impl Announce {
 
 // The fixed length of a kind, 0 where there is no such kind.
 pub fn fixed_length(kind: u8) -> usize
-    ensures { λ r. ⌜ r ≡ fixedOf kind ⌝ }
+    ensures { λ r. ⌜ r ≡ fixedLengthOf kind ⌝ }
 {
     match kind {
         Sync::KIND => Sync::LENGTH,

@@ -1,9 +1,9 @@
-// A message with every field, reserved and control ones too, and the answers of reading and writing.
+// A message with every field, reserved and control ones too (rule 2.10), and the answers of reading and writing.
 use crate::kinds;
 use numbers::refusal::Refusal;
 use numbers::stamp::Stamp;
 ghost use mathlib.Core.Path.{_≡_};
-ghost use Rattle.wire_layout.specs.Kinds.{kindOf, sizeOf, stampIn};
+ghost use Rattle.wire_layout.specs.Kinds.{kindOf, bodySize, stampIn};
 
 // A port identity: 8 octets of clock identity, 2 of port number.
 #[repr(C)]
@@ -43,7 +43,7 @@ pub struct Offer {
     pub time: u8,
 }
 
-// What follows the header: the timestamp, and what stands after it.
+// What follows the header: the timestamp, and what comes after it.
 pub enum Body {
     Sync(Stamp),
     DelayReq(Stamp),
@@ -90,7 +90,7 @@ impl Body {
 
     // The fixed length.
     pub fn size(self) -> usize
-        ensures { λ r. ⌜ r ≡ sizeOf self ⌝ }
+        ensures { λ r. ⌜ r ≡ bodySize self ⌝ }
     {
         match self {
             Body::Sync(_) => kinds::Sync::LENGTH,

@@ -4,20 +4,14 @@ ghost use mathlib.Core.Path.{_≡_};
 ghost use lib.ListN.{drop};
 ghost use Rattle.wire_layout.specs.Suffix.{tlvOf, wholeOf};
 
-// What stands at a place of a suffix: nothing more, a whole TLV with its type and its value's length, or neither.
+// What is at a place of a suffix: nothing more, a whole TLV with its type and its value's length, or neither.
 pub enum Tlv {
     End,
     Whole(u16, usize),
     Broken,
 }
 
-fn wide(x: u16) -> usize
-    ensures { λ r. ⌜ r ≡ x ⌝ }
-{
-    x as usize
-}
-
-// The TLV from `at`. The next one stands behind its 4 octets and its value.
+// The TLV from `at`. The next one comes behind its 4 octets and its value.
 pub fn tlv_at(t: &[u8], at: usize) -> Tlv
     ensures { λ r. ⌜ r ≡ tlvOf (drop at (now (t .entry))) ⌝ }
 {
@@ -28,7 +22,7 @@ pub fn tlv_at(t: &[u8], at: usize) -> Tlv
     if left < 4 {
         return Tlv::Broken;
     }
-    let n = wide(u16_at(t, at + 2));
+    let n = u16_at(t, at + 2) as usize;
     if n % 2 != 0 {
         return Tlv::Broken;
     }

@@ -9,7 +9,7 @@ use lib.Signed.{ltZ}
 use mir.Syntax.{Width}
 use mir.Val.{toZ, ofZ, SFits, Fits, bits, hbits}
 use mir.Facts.{toZ-neg}
-use Rattle.numbers.specs.Integers.{ext, up-add, dn-add, ltZ-true, ltZ-false}
+use Rattle.numbers.proofs.Integers.{ext, up-add, dn-add, ltZ-true, ltZ-false}
 
 pub below-minus-one : (m : ℕ) → negsuc 0 -ℤ pos m ≡ negsuc m
 below-minus-one zero = refl

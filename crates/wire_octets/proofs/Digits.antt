@@ -6,15 +6,19 @@ use native.Mathlib.Nat.{add-zero, add-suc, add-assoc, mul-assoc, pow-succ', div-
 use native.Mathlib.Omega.{arith}
 use lib.ListN.{length, getD, take, drop, length-append, length-drop}
 use lib.Seq.{getD-at, drop-cons, take-at, drop-drop, drop-append-add, length-take-le}
-use Rattle.wire_octets.specs.Octets.{num, shift, digits, Octets, put}
+use Rattle.wire_octets.specs.Octets.{num, shift, bigEndian, put}
+
+-- each element is an octet
+abbrev pub Octets : List ℕ → Type 0
+Octets s = (i : ℕ) → getD s i 0 < 256
 
 -- the k octets of s from `at`
 unfoldable pub part : ℕ → ℕ → List ℕ → List ℕ
 part zero at s = []
 part (suc k) at s = getD s at 0 ∷ part k (suc at) s
 
-pub length-digits : (k x : ℕ) → length (digits k x) ≡ k
-unfolding digits
+pub length-digits : (k x : ℕ) → length (bigEndian k x) ≡ k
+unfolding bigEndian
 length-digits zero x = refl
 length-digits (suc k) x = ap suc (length-digits k x)
 
@@ -34,26 +38,26 @@ shift-div : (k x : ℕ) → shift k x ≡ x / 256 ^ k
 shift-div zero x = sym (div-one x)
 shift-div (suc k) x = refl
 
-digits-snoc : (k n b : ℕ) → b < 256 → digits (suc k) (n * 256 + b) ≡ digits k n ++ (b ∷ [])
-unfolding digits
+digits-snoc : (k n b : ℕ) → b < 256 → bigEndian (suc k) (n * 256 + b) ≡ bigEndian k n ++ (b ∷ [])
+unfolding bigEndian
 digits-snoc zero n b h = let e : (n * 256 + b) % 256 ≡ b = omega arith in rw e
 digits-snoc (suc k) n b h =
     let e : (n * 256 + b) / 256 ≡ n = omega arith in
     let f : (n * 256 + b) / 256 ^ suc k ≡ n / 256 ^ k = rw (pow-succ', ← div-div-eq-div-mul, e) in
     rw (f, digits-snoc k n b h, ← shift-div)
 
-digits-step : (k x : ℕ) → digits (suc k) x ≡ digits k (x / 256) ++ (x % 256 ∷ [])
-digits-step k x = let e : x ≡ x / 256 * 256 + x % 256 = omega arith in ap (digits (suc k)) e ∙ digits-snoc k (x / 256) (x % 256) (omega arith)
+digits-step : (k x : ℕ) → bigEndian (suc k) x ≡ bigEndian k (x / 256) ++ (x % 256 ∷ [])
+digits-step k x = let e : x ≡ x / 256 * 256 + x % 256 = omega arith in ap (bigEndian (suc k)) e ∙ digits-snoc k (x / 256) (x % 256) (omega arith)
 
 -- what was written is read: the number in the octets of x is x
-pub num-digits : (k x : ℕ) (t : List ℕ) → x < 256 ^ k → num k 0 (digits k x ++ t) ≡ x
+pub num-digits : (k x : ℕ) (t : List ℕ) → x < 256 ^ k → num k 0 (bigEndian k x ++ t) ≡ x
 unfolding num
 num-digits zero x t h = omega arith
 num-digits (suc k) x t h =
     let h' : x < 256 * 256 ^ k = rw pow-succ' at h in
-    let e : digits (suc k) x ++ t ≡ digits k (x / 256) ++ (x % 256 ∷ t) = rw (digits-step, append-assoc) in
-    let d : getD (digits k (x / 256) ++ (x % 256 ∷ t)) (0 + k) 0 ≡ x % 256 =
-    rw zero-add (getD-at (digits k (x / 256)) (x % 256) t 0 k (length-digits k (x / 256))) in
+    let e : bigEndian (suc k) x ++ t ≡ bigEndian k (x / 256) ++ (x % 256 ∷ t) = rw (digits-step, append-assoc) in
+    let d : getD (bigEndian k (x / 256) ++ (x % 256 ∷ t)) (0 + k) 0 ≡ x % 256 =
+    rw zero-add (getD-at (bigEndian k (x / 256)) (x % 256) t 0 k (length-digits k (x / 256))) in
     rw (e, d, num-digits k (x / 256) (x % 256 ∷ t) (omega arith)) (omega arith)
 
 part-snoc : (k at : ℕ) (s : List ℕ) → part (suc k) at s ≡ part k at s ++ (getD s (at + k) 0 ∷ [])
@@ -63,9 +67,9 @@ part-snoc (suc k) at s =
     let e : at + suc k ≡ suc at + k = omega arith in
     rw e (ap (λ (l : List ℕ). getD s at 0 ∷ l) (part-snoc k (suc at) s))
 
--- what was read is written: the octets of the number are those that stood there
-pub digits-num : (k at : ℕ) (s : List ℕ) → Octets s → digits k (num k at s) ≡ part k at s
-unfolding num digits part
+-- what was read is written: the octets of the number are those that were there
+pub digits-num : (k at : ℕ) (s : List ℕ) → Octets s → bigEndian k (num k at s) ≡ part k at s
+unfolding num bigEndian part
 digits-num zero at s o = refl
 digits-num (suc k) at s o =
     digits-snoc k (num k at s) (getD s (at + k) 0) (o (at + k)) ∙ rw (digits-num k at s o, ← part-snoc)

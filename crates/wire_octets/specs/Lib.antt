@@ -1,1 +1,2 @@
+-- Big-endian numbers in octets.
 pub mod Octets

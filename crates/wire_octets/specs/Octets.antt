@@ -1,6 +1,6 @@
 -- Big-endian numbers over the width: `num k at s` is the number in the k octets of s from `at`, `digits k x` the k octets of x.
 use mathlib.Core.List.{List, [], _∷_, _++_}
-use Prim.Native.Nat.{ℕ, zero, suc, _+_, _*_, _/_, _%_, _^_, _<_}
+use Prim.Native.Nat.{ℕ, zero, suc, _+_, _*_, _/_, _%_, _^_}
 use lib.ListN.{length, getD, take, drop}
 
 unfoldable pub num : ℕ → ℕ → List ℕ → ℕ
@@ -12,14 +12,10 @@ abbrev pub shift : ℕ → ℕ → ℕ
 shift zero x = x
 shift (suc k) x = x / 256 ^ suc k
 
-unfoldable pub digits : ℕ → ℕ → List ℕ
-digits zero x = []
-digits (suc k) x = shift k x % 256 ∷ digits k x
+unfoldable pub bigEndian : ℕ → ℕ → List ℕ
+bigEndian zero x = []
+bigEndian (suc k) x = shift k x % 256 ∷ bigEndian k x
 
--- each element is an octet
-abbrev pub Octets : List ℕ → Type 0
-Octets s = (i : ℕ) → getD s i 0 < 256
-
--- d with a in place of what stood from `at`
+-- d with a in place of what was there from `at`
 abbrev pub put : List ℕ → ℕ → List ℕ → List ℕ
 put d at a = take at d ++ a ++ drop (at + length a) d

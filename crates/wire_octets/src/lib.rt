@@ -20,15 +20,9 @@ fn four(a: u8, b: u8, c: u8, d: u8) -> u32
 }
 
 fn join32(a: u32, b: u32) -> u64
-    ensures { λ r. ⌜ r ≡ a * 4294967296 + b ⌝ }
+    ensures { λ r. ⌜ r ≡ a * 4_294_967_296 + b ⌝ }
 {
-    (a as u64) * 4294967296 + (b as u64)
-}
-
-fn widened(a: u16) -> u32
-    ensures { λ r. ⌜ r ≡ a ⌝ }
-{
-    a as u32
+    (a as u64) * 4_294_967_296 + (b as u64)
 }
 
 pub fn u16_at(s: &[u8], at: usize) -> u16
@@ -49,7 +43,7 @@ pub fn u48_at(s: &[u8], at: usize) -> u64
     requires { ⌜ at + 6 ≤ length (now s) ⌝ }
     ensures { λ r. ⌜ r ≡ num 6 at (now (s .entry)) ⌝ }
 {
-    join32(widened(u16_at(s, at)), u32_at(s, at + 2))
+    join32(u16_at(s, at) as u32, u32_at(s, at + 2))
 }
 
 pub fn u64_at(s: &[u8], at: usize) -> u64
@@ -83,10 +77,10 @@ pub fn bits8(x: i8) -> u8
 pub fn signed16(x: u16) -> i16
     ensures { λ r. ⌜ r ≡ toZ w16 x ⌝ }
 {
-    if x < 32768 {
+    if x < 32_768 {
         x as i16
     } else {
-        -1 - ((65535 - x) as i16)
+        -1 - ((65_535 - x) as i16)
     }
 }
 
@@ -94,7 +88,7 @@ pub fn bits16(x: i16) -> u16
     ensures { λ r. ⌜ r ≡ ofZ w16 x ⌝ }
 {
     if x < 0 {
-        65535 - ((-1 - x) as u16)
+        65_535 - ((-1 - x) as u16)
     } else {
         x as u16
     }
@@ -103,10 +97,10 @@ pub fn bits16(x: i16) -> u16
 pub fn signed64(x: u64) -> i64
     ensures { λ r. ⌜ r ≡ toZ w64 x ⌝ }
 {
-    if x < 9223372036854775808 {
+    if x < 9_223_372_036_854_775_808 {
         x as i64
     } else {
-        -1 - ((18446744073709551615 - x) as i64)
+        -1 - ((18_446_744_073_709_551_615 - x) as i64)
     }
 }
 
@@ -114,7 +108,7 @@ pub fn bits64(x: i64) -> u64
     ensures { λ r. ⌜ r ≡ ofZ w64 x ⌝ }
 {
     if x < 0 {
-        18446744073709551615 - ((-1 - x) as u64)
+        18_446_744_073_709_551_615 - ((-1 - x) as u64)
     } else {
         x as u64
     }

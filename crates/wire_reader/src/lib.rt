@@ -1,6 +1,7 @@
 // Reading: the octets of a message, behind the Ethernet header, become the message, or the refusal that says why not.
 use numbers::refusal::Refusal;
 use numbers::stamp::Stamp;
+use numbers::stamp::sound;
 use wire_layout::kinds;
 use wire_layout::message::Body;
 use wire_layout::message::Header;
@@ -18,9 +19,9 @@ use wire_octets::u32_at;
 use wire_octets::u48_at;
 use wire_octets::u64_at;
 ghost use mathlib.Core.Path.{_≡_};
-ghost use Prim.Native.Nat.{_+_, _≤_};
+ghost use Prim.Native.Nat.{_+_, _≤_, _<_};
 ghost use lib.ListN.{length};
-ghost use Rattle.wire_layout.specs.Kinds.{Known, fixedOf};
+ghost use Rattle.wire_layout.specs.Kinds.{fixedLengthOf};
 ghost use Rattle.wire_layout.specs.Positions.{portAt, headerOf, stampAt, offerOf, bodyOf};
 ghost use Rattle.wire_layout.specs.Reading.{readOf};
 
@@ -86,8 +87,8 @@ fn offer_of(s: &[u8]) -> Offer
 }
 
 fn body_of(s: &[u8], kind: u8) -> Body
-    requires { ⌜ Known kind ⌝ }
-    requires { ⌜ fixedOf kind ≤ length (now s) ⌝ }
+    requires { ⌜ 0 < fixedLengthOf kind ⌝ }
+    requires { ⌜ fixedLengthOf kind ≤ length (now s) ⌝ }
     ensures { λ r. ⌜ r ≡ bodyOf kind (now (s .entry)) ⌝ }
 {
     match kind {
@@ -97,12 +98,6 @@ fn body_of(s: &[u8], kind: u8) -> Body
         kinds::DelayResp::KIND => Body::DelayResp(stamp_at(s, 34), port_at(s, 44)),
         _ => Body::Announce(stamp_at(s, 34), offer_of(s)),
     }
-}
-
-fn wide(x: u16) -> usize
-    ensures { λ r. ⌜ r ≡ x ⌝ }
-{
-    x as usize
 }
 
 // The message with every field and where its suffix lies, or the first refusal that holds. Octets past messageLength are padding.
@@ -121,7 +116,7 @@ pub fn read(s: &[u8]) -> Read
     if fixed == 0 {
         return Read::Refused(Refusal::Kind);
     }
-    let length = wide(u16_at(s, 2));
+    let length = u16_at(s, 2) as usize;
     if length < fixed {
         return Read::Refused(Refusal::Length);
     }
@@ -130,20 +125,20 @@ pub fn read(s: &[u8]) -> Read
     }
     let suffixed = whole(&s[fixed..length]);
     let body = body_of(s, kind);
-    let stamp = body.stamp();
-    if 999999999 < stamp.nanoseconds {
-        return Read::Refused(Refusal::Field);
-    }
-    if suffixed {
-        let header = header_of(s);
-        Read::Got(
-            Message { header, body },
-            Part {
-                from: fixed,
-                to: length,
-            },
-        )
+    if sound(body.stamp()) {
+        if suffixed {
+            let header = header_of(s);
+            Read::Got(
+                Message { header, body },
+                Part {
+                    from: fixed,
+                    to: length,
+                },
+            )
+        } else {
+            Read::Refused(Refusal::Suffix)
+        }
     } else {
-        Read::Refused(Refusal::Suffix)
+        Read::Refused(Refusal::Field)
     }
 }

@@ -19,8 +19,8 @@ ghost use lib.ListN.{length};
 ghost use mir.Syntax.{w8, w16, w64};
 ghost use mir.Val.{ofZ};
 ghost use Rattle.wire_octets.specs.Octets.{put};
-ghost use Rattle.wire_layout.specs.Kinds.{sizeOf};
-ghost use Rattle.wire_layout.specs.Writing.{portOctets, headerOctets, stampOctets, offerOctets, bodyOctets, fitOf, writeOf, leftBy};
+ghost use Rattle.wire_layout.specs.Kinds.{bodySize};
+ghost use Rattle.wire_layout.specs.Writing.{portOctets, frontOctets, backOctets, headerOctets, stampOctets, offerOctets, bodyOctets, fieldsFit, writeOf, leftBy};
 
 // The bits of the signed fields.
 fn correction_bits(h: Header) -> u64
@@ -41,18 +41,14 @@ fn utc_bits(o: Offer) -> u16
     bits16(o.utc)
 }
 
-// Each part as its octets.
-fn header_octets(h: Header, kind: u8, len: u16) -> [u8; 34]
+// Each part as its octets. The header in front of its source's port identity:
+fn front_octets(h: Header, kind: u8, len: u16) -> [u8; 20]
     requires { ⌜ (h .sdo < 16) × (h .minor < 16) × (kind < 16) ⌝ }
-    ensures { λ r. ⌜ r ≡ headerOctets h kind len ⌝ }
+    ensures { λ r. ⌜ r ≡ frontOctets h kind len ⌝ }
 {
     let correction = correction_bits(h);
-    let interval = interval_bits(h);
     let flags = h.flags;
     let specific = h.specific;
-    let clock = h.source.clock;
-    let number = h.source.number;
-    let sequence = h.sequence;
     [
         h.sdo * 16 + kind,
         h.minor * 16 + 2,
@@ -74,16 +70,16 @@ fn header_octets(h: Header, kind: u8, len: u16) -> [u8; 34]
         ((specific >> 16) % 256) as u8,
         ((specific >> 8) % 256) as u8,
         (specific % 256) as u8,
-        ((clock >> 56) % 256) as u8,
-        ((clock >> 48) % 256) as u8,
-        ((clock >> 40) % 256) as u8,
-        ((clock >> 32) % 256) as u8,
-        ((clock >> 24) % 256) as u8,
-        ((clock >> 16) % 256) as u8,
-        ((clock >> 8) % 256) as u8,
-        (clock % 256) as u8,
-        ((number >> 8) % 256) as u8,
-        (number % 256) as u8,
+    ]
+}
+
+// The header behind it.
+fn back_octets(h: Header) -> [u8; 4]
+    ensures { λ r. ⌜ r ≡ backOctets h ⌝ }
+{
+    let interval = interval_bits(h);
+    let sequence = h.sequence;
+    [
         ((sequence >> 8) % 256) as u8,
         (sequence % 256) as u8,
         h.control,
@@ -160,62 +156,43 @@ fn offer_octets(o: Offer) -> [u8; 20]
     ]
 }
 
-// Each part into its place.
+// Header and body, each into its place.
 fn put_header(out: &mut [u8], h: Header, kind: u8, len: u16)
     requires { ⌜ 34 ≤ length (now out) ⌝ }
     requires { ⌜ (h .sdo < 16) × (h .minor < 16) × (kind < 16) ⌝ }
     ensures { λ _. ⌜ now (out .exit) ≡ put (now (out .entry)) 0 (headerOctets h kind len) ⌝ }
 {
-    let o = header_octets(h, kind, len);
-    copy_in(out, 0, &o);
-}
-
-fn put_stamp(out: &mut [u8], t: Stamp)
-    requires { ⌜ 44 ≤ length (now out) ⌝ }
-    ensures { λ _. ⌜ now (out .exit) ≡ put (now (out .entry)) 34 (stampOctets t) ⌝ }
-{
-    let o = stamp_octets(t);
-    copy_in(out, 34, &o);
-}
-
-fn put_port(out: &mut [u8], p: Port)
-    requires { ⌜ 54 ≤ length (now out) ⌝ }
-    ensures { λ _. ⌜ now (out .exit) ≡ put (now (out .entry)) 44 (portOctets p) ⌝ }
-{
-    let o = port_octets(p);
-    copy_in(out, 44, &o);
-}
-
-fn put_offer(out: &mut [u8], f: Offer)
-    requires { ⌜ 64 ≤ length (now out) ⌝ }
-    ensures { λ _. ⌜ now (out .exit) ≡ put (now (out .entry)) 44 (offerOctets f) ⌝ }
-{
-    let o = offer_octets(f);
-    copy_in(out, 44, &o);
+    let source = h.source;
+    let front = front_octets(h, kind, len);
+    let port = port_octets(source);
+    let back = back_octets(h);
+    copy_in(out, 0, &front);
+    copy_in(out, 20, &port);
+    copy_in(out, 30, &back);
 }
 
 fn put_body(out: &mut [u8], b: Body)
-    requires { ⌜ sizeOf b ≤ length (now out) ⌝ }
+    requires { ⌜ bodySize b ≤ length (now out) ⌝ }
     ensures { λ _. ⌜ now (out .exit) ≡ put (now (out .entry)) 34 (bodyOctets b) ⌝ }
 {
+    let stamp = stamp_octets(b.stamp());
+    copy_in(out, 34, &stamp);
     match b {
-        Body::Sync(t) => put_stamp(out, t),
-        Body::DelayReq(t) => put_stamp(out, t),
-        Body::FollowUp(t) => put_stamp(out, t),
-        Body::DelayResp(t, p) => {
-            put_stamp(out, t);
-            put_port(out, p);
+        Body::DelayResp(_, p) => {
+            let port = port_octets(p);
+            copy_in(out, 44, &port);
         }
-        Body::Announce(t, o) => {
-            put_stamp(out, t);
-            put_offer(out, o);
+        Body::Announce(_, o) => {
+            let offer = offer_octets(o);
+            copy_in(out, 44, &offer);
         }
+        _ => {}
     }
 }
 
 // No FIELD.
 fn fields_fit(h: Header, t: Stamp) -> bool
-    ensures { λ r. ⌜ r ≡ fitOf h t ⌝ }
+    ensures { λ r. ⌜ r ≡ fieldsFit h t ⌝ }
 {
     if h.sdo < 16 {
         if h.minor < 16 {
@@ -235,7 +212,7 @@ pub fn write(m: Message, suffix: &[u8], part: &mut [u8]) -> Written
     if fields_fit(h, b.stamp()) {
         if whole(suffix) {
             let fixed = b.size();
-            if 65535 - fixed < suffix.len() {
+            if 65_535 - fixed < suffix.len() {
                 return Written::Barred(Refusal::Length);
             }
             let n = fixed + suffix.len();

@@ -45,9 +45,10 @@ fn texts(folder: &str) -> Vec<String> {
     let mut found = vec![];
     let mut waiting = vec![folder.to_string()];
     while let Some(path) = waiting.pop() {
-        if root().join(&path).is_dir() {
-            waiting
-                .extend((!path.ends_with("/target")).then(|| entries(&path)).unwrap_or_default());
+        if path.ends_with("/target") {
+            continue;
+        } else if root().join(&path).is_dir() {
+            waiting.extend(entries(&path));
         } else if ENDINGS.iter().any(|ending| path.ends_with(&format!(".{ending}"))) {
             found.push(path);
         }

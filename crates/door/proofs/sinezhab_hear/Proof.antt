@@ -86,7 +86,7 @@ use Rattle.rules_watch.proofs.Watch.fresh.Symbol as s-fresh
 use Rattle.rules_watch.proofs.Watch.fresh.Symbol.{name as #fresh}
 use Rattle.rules_watch.proofs.Watch.fresh.Met as t-fresh
 use Rattle.rules_watch.specs.Watch.{freshWatch}
-use Rattle.rules_masters.specs.Records.{emptyRecord}
+use Rattle.rules_masters.specs.Records.{freshRecord}
 use Rattle.door_steps.specs.Steps.{heardOf, untabledOf}
 use Rattle.door.specs.Lending.{Lent, lentBy, hearOf}
 use Rattle.door.proofs.sinezhab_hear.Key.{name as #this}
@@ -448,7 +448,7 @@ is-N {n} z = eqb→eq n 5 (twice-not (eqb n 5) z)
 within : (k n : ℕ) → k < 5 → Holds (not (not (eqb n 5))) → k < n
 within k n l z = subst (λ (m : ℕ). k < m) (sym (is-N z)) l
 
-all-n : (ys : List SRecord.Record) → length ys ≡ 5 → ys ≡ getD ys 0 emptyRecord ∷ getD ys 1 emptyRecord ∷ getD ys 2 emptyRecord ∷ getD ys 3 emptyRecord ∷ getD ys 4 emptyRecord ∷ []
+all-n : (ys : List SRecord.Record) → length ys ≡ 5 → ys ≡ getD ys 0 freshRecord ∷ getD ys 1 freshRecord ∷ getD ys 2 freshRecord ∷ getD ys 3 freshRecord ∷ getD ys 4 freshRecord ∷ []
 all-n [] e = absurd (omega (arith, e))
 all-n (x0 ∷ []) e = absurd (omega (arith, e))
 all-n (x0 ∷ x1 ∷ []) e = absurd (omega (arith, e))
@@ -478,7 +478,7 @@ unwiped false a b z = refl
 
 -- what the contract says, where there are five
 done-is : (u : SCore.Core) (s : SServo.Servo) (t : List SRecord.Record) (v : SWatch.Watch) (k : SCallWords.CallWords) (p : SHeard.Heard) → Holds (not (not (eqb (length t) 5)))
-    → p ≡ heardOf u s (getD t 0 emptyRecord ∷ getD t 1 emptyRecord ∷ getD t 2 emptyRecord ∷ getD t 3 emptyRecord ∷ getD t 4 emptyRecord ∷ []) k → lentBy p v ≡ hearOf u s t v k
+    → p ≡ heardOf u s (getD t 0 freshRecord ∷ getD t 1 freshRecord ∷ getD t 2 freshRecord ∷ getD t 3 freshRecord ∷ getD t 4 freshRecord ∷ []) k → lentBy p v ≡ hearOf u s t v k
 done-is u s t v k p good e = ap (λ (q : SHeard.Heard). lentBy q v) (e ∙ ap (λ (l : List SRecord.Record). heardOf u s l k) (sym (all-n t (is-N good)))) ∙ chosen (eqb (length t) 5) _ _ good
 
 module _ {M : Type 1} (𝓤 : URA M) (H : Heap 𝓤) (A : Atoms 𝓤) (at-mem : Memory → SProp 𝓤) (run : Routine → Fun 𝓤) where
@@ -529,7 +529,7 @@ module _ {M : Type 1} (𝓤 : URA M) (H : Heap 𝓤) (A : Atoms 𝓤) (W : Given
   x3 l = record { ptr = (b3, o3); name = γ3; now = l }
 
   abbrev el : ℕ → SRecord.Record
-  el k = getD h3 k emptyRecord
+  el k = getD h3 k freshRecord
 
   abbrev Post : Val → SProp 𝓤
   Post = walkOf 𝓤 H A this.ended stayed (this.clauses 𝓤 H A at-mem run) .post ((((κ1, (κ2, (κ3, (κ4, (κ5, (κ6, tt)))))), (q1, (q2, (q3, (q4, (q5, (q6, tt)))))), tt, x, at), tt))
@@ -601,7 +601,7 @@ module _ {M : Type 1} (𝓤 : URA M) (H : Heap 𝓤) (A : Atoms 𝓤) (W : Given
           opens-slice ! tt R-Record (set (set (set (set h3 0 (p-26 .row0)) 1 (p-26 .row1)) 2 (p-26 .row2)) 3 (p-26 .row3)) b3 o3 $
           assigns ! (bin ! (load ! (from ! (fld ! refl (stop !))) (look-in ! 77 (sub ! 0 refl (whole !)))) (lit ! tt) tt) (from ! (stop !)) (init ! 23 refl (tt, tt)) $
           rewrite ! 23 (λ (p : ℕ). ‵ (fat fullShare tyPtr l30 0 (vptr b3 p))) (sym (place-is 120 o3 4)) refl $
-          elem-out ! R-Record (Is R-Record) (shows 𝓤 H A R-Record) v-Record tells-Record fullShare (set (set (set (set h3 0 (p-26 .row0)) 1 (p-26 .row1)) 2 (p-26 .row2)) 3 (p-26 .row3)) 4 emptyRecord b3 o3 (subst (λ (m : ℕ). 4 < m) (sym (((length-set (set (set (set h3 0 (p-26 .row0)) 1 (p-26 .row1)) 2 (p-26 .row2)) 3 (p-26 .row3)) ∙ ((length-set (set (set h3 0 (p-26 .row0)) 1 (p-26 .row1)) 2 (p-26 .row2)) ∙ ((length-set (set h3 0 (p-26 .row0)) 1 (p-26 .row1)) ∙ (length-set h3 0 (p-26 .row0))))) ∙ is-N good)) (lit< tt)) (λ _.
+          elem-out ! R-Record (Is R-Record) (shows 𝓤 H A R-Record) v-Record tells-Record fullShare (set (set (set (set h3 0 (p-26 .row0)) 1 (p-26 .row1)) 2 (p-26 .row2)) 3 (p-26 .row3)) 4 freshRecord b3 o3 (subst (λ (m : ℕ). 4 < m) (sym (((length-set (set (set (set h3 0 (p-26 .row0)) 1 (p-26 .row1)) 2 (p-26 .row2)) 3 (p-26 .row3)) ∙ ((length-set (set (set h3 0 (p-26 .row0)) 1 (p-26 .row1)) 2 (p-26 .row2)) ∙ ((length-set (set h3 0 (p-26 .row0)) 1 (p-26 .row1)) ∙ (length-set h3 0 (p-26 .row0))))) ∙ is-N good)) (lit< tt)) (λ _.
           assigns ! (of-opd ! (load ! (from ! (fld ! {τ = MRecord′.mir} {d = off-Heard-6} field-Heard-6 (stop !))) (look-in ! 65 (sub ! {ν = name-of MHeard′.mir} {τs = tys-of MHeard′.mir} 6 {τ = MRecord′.mir} {d = off-Heard-6} field-Heard-6 (whole !))))) (from ! (hop ! (look ! 25 refl) (stop !))) (store-raw ! 0 refl (lawful-Record 𝓤 H A W .typed (p-26 .row4) _ ((parts-Heard p-26 w-25 is-28) .pg6) .0)) $
           move ! (1 ∷ []) $
           drop ! $
@@ -617,7 +617,7 @@ module _ {M : Type 1} (𝓤 : URA M) (H : Heap 𝓤) (A : Atoms 𝓤) (W : Given
           opens-slice ! tt R-Record (set (set (set h3 0 (p-26 .row0)) 1 (p-26 .row1)) 2 (p-26 .row2)) b3 o3 $
           assigns ! (bin ! (load ! (from ! (fld ! refl (stop !))) (look-in ! 77 (sub ! 0 refl (whole !)))) (lit ! tt) tt) (from ! (stop !)) (init ! 25 refl (tt, tt)) $
           rewrite ! 25 (λ (p : ℕ). ‵ (fat fullShare tyPtr l29 0 (vptr b3 p))) (sym (place-is 120 o3 3)) refl $
-          elem-out ! R-Record (Is R-Record) (shows 𝓤 H A R-Record) v-Record tells-Record fullShare (set (set (set h3 0 (p-26 .row0)) 1 (p-26 .row1)) 2 (p-26 .row2)) 3 emptyRecord b3 o3 (subst (λ (m : ℕ). 3 < m) (sym (((length-set (set (set h3 0 (p-26 .row0)) 1 (p-26 .row1)) 2 (p-26 .row2)) ∙ ((length-set (set h3 0 (p-26 .row0)) 1 (p-26 .row1)) ∙ (length-set h3 0 (p-26 .row0)))) ∙ is-N good)) (lit< tt)) (λ _.
+          elem-out ! R-Record (Is R-Record) (shows 𝓤 H A R-Record) v-Record tells-Record fullShare (set (set (set h3 0 (p-26 .row0)) 1 (p-26 .row1)) 2 (p-26 .row2)) 3 freshRecord b3 o3 (subst (λ (m : ℕ). 3 < m) (sym (((length-set (set (set h3 0 (p-26 .row0)) 1 (p-26 .row1)) 2 (p-26 .row2)) ∙ ((length-set (set h3 0 (p-26 .row0)) 1 (p-26 .row1)) ∙ (length-set h3 0 (p-26 .row0)))) ∙ is-N good)) (lit< tt)) (λ _.
           assigns ! (of-opd ! (load ! (from ! (fld ! {τ = MRecord′.mir} {d = off-Heard-5} field-Heard-5 (stop !))) (look-in ! 65 (sub ! {ν = name-of MHeard′.mir} {τs = tys-of MHeard′.mir} 5 {τ = MRecord′.mir} {d = off-Heard-5} field-Heard-5 (whole !))))) (from ! (hop ! (look ! 27 refl) (stop !))) (store-raw ! 0 refl (lawful-Record 𝓤 H A W .typed (p-26 .row3) _ ((parts-Heard p-26 w-25 is-28) .pg5) .0)) $
           move ! (1 ∷ []) $
           drop ! $
@@ -633,7 +633,7 @@ module _ {M : Type 1} (𝓤 : URA M) (H : Heap 𝓤) (A : Atoms 𝓤) (W : Given
           opens-slice ! tt R-Record (set (set h3 0 (p-26 .row0)) 1 (p-26 .row1)) b3 o3 $
           assigns ! (bin ! (load ! (from ! (fld ! refl (stop !))) (look-in ! 77 (sub ! 0 refl (whole !)))) (lit ! tt) tt) (from ! (stop !)) (init ! 27 refl (tt, tt)) $
           rewrite ! 27 (λ (p : ℕ). ‵ (fat fullShare tyPtr l28 0 (vptr b3 p))) (sym (place-is 120 o3 2)) refl $
-          elem-out ! R-Record (Is R-Record) (shows 𝓤 H A R-Record) v-Record tells-Record fullShare (set (set h3 0 (p-26 .row0)) 1 (p-26 .row1)) 2 emptyRecord b3 o3 (subst (λ (m : ℕ). 2 < m) (sym (((length-set (set h3 0 (p-26 .row0)) 1 (p-26 .row1)) ∙ (length-set h3 0 (p-26 .row0))) ∙ is-N good)) (lit< tt)) (λ _.
+          elem-out ! R-Record (Is R-Record) (shows 𝓤 H A R-Record) v-Record tells-Record fullShare (set (set h3 0 (p-26 .row0)) 1 (p-26 .row1)) 2 freshRecord b3 o3 (subst (λ (m : ℕ). 2 < m) (sym (((length-set (set h3 0 (p-26 .row0)) 1 (p-26 .row1)) ∙ (length-set h3 0 (p-26 .row0))) ∙ is-N good)) (lit< tt)) (λ _.
           assigns ! (of-opd ! (load ! (from ! (fld ! {τ = MRecord′.mir} {d = off-Heard-4} field-Heard-4 (stop !))) (look-in ! 65 (sub ! {ν = name-of MHeard′.mir} {τs = tys-of MHeard′.mir} 4 {τ = MRecord′.mir} {d = off-Heard-4} field-Heard-4 (whole !))))) (from ! (hop ! (look ! 29 refl) (stop !))) (store-raw ! 0 refl (lawful-Record 𝓤 H A W .typed (p-26 .row2) _ ((parts-Heard p-26 w-25 is-28) .pg4) .0)) $
           move ! (1 ∷ []) $
           drop ! $
@@ -649,7 +649,7 @@ module _ {M : Type 1} (𝓤 : URA M) (H : Heap 𝓤) (A : Atoms 𝓤) (W : Given
           opens-slice ! tt R-Record (set h3 0 (p-26 .row0)) b3 o3 $
           assigns ! (bin ! (load ! (from ! (fld ! refl (stop !))) (look-in ! 77 (sub ! 0 refl (whole !)))) (lit ! tt) tt) (from ! (stop !)) (init ! 29 refl (tt, tt)) $
           rewrite ! 29 (λ (p : ℕ). ‵ (fat fullShare tyPtr l27 0 (vptr b3 p))) (sym (place-is 120 o3 1)) refl $
-          elem-out ! R-Record (Is R-Record) (shows 𝓤 H A R-Record) v-Record tells-Record fullShare (set h3 0 (p-26 .row0)) 1 emptyRecord b3 o3 (subst (λ (m : ℕ). 1 < m) (sym ((length-set h3 0 (p-26 .row0)) ∙ is-N good)) (lit< tt)) (λ _.
+          elem-out ! R-Record (Is R-Record) (shows 𝓤 H A R-Record) v-Record tells-Record fullShare (set h3 0 (p-26 .row0)) 1 freshRecord b3 o3 (subst (λ (m : ℕ). 1 < m) (sym ((length-set h3 0 (p-26 .row0)) ∙ is-N good)) (lit< tt)) (λ _.
           assigns ! (of-opd ! (load ! (from ! (fld ! {τ = MRecord′.mir} {d = off-Heard-3} field-Heard-3 (stop !))) (look-in ! 65 (sub ! {ν = name-of MHeard′.mir} {τs = tys-of MHeard′.mir} 3 {τ = MRecord′.mir} {d = off-Heard-3} field-Heard-3 (whole !))))) (from ! (hop ! (look ! 31 refl) (stop !))) (store-raw ! 0 refl (lawful-Record 𝓤 H A W .typed (p-26 .row1) _ ((parts-Heard p-26 w-25 is-28) .pg3) .0)) $
           move ! (1 ∷ []) $
           drop ! $
@@ -666,7 +666,7 @@ module _ {M : Type 1} (𝓤 : URA M) (H : Heap 𝓤) (A : Atoms 𝓤) (W : Given
           opens-slice ! tt R-Record h3 b3 o3 $
           assigns ! (bin ! (load ! (from ! (fld ! refl (stop !))) (look-in ! 77 (sub ! 0 refl (whole !)))) (lit ! tt) tt) (from ! (stop !)) (init ! 31 refl (tt, tt)) $
           rewrite ! 31 (λ (p : ℕ). ‵ (fat fullShare tyPtr l26 0 (vptr b3 p))) (sym (place-is 120 o3 0)) refl $
-          elem-out ! R-Record (Is R-Record) (shows 𝓤 H A R-Record) v-Record tells-Record fullShare h3 0 emptyRecord b3 o3 (within 0 (length h3) (lit< tt) good) (λ _.
+          elem-out ! R-Record (Is R-Record) (shows 𝓤 H A R-Record) v-Record tells-Record fullShare h3 0 freshRecord b3 o3 (within 0 (length h3) (lit< tt) good) (λ _.
           assigns ! (of-opd ! (load ! (from ! (fld ! {τ = MRecord′.mir} {d = off-Heard-2} field-Heard-2 (stop !))) (look-in ! 65 (sub ! {ν = name-of MHeard′.mir} {τs = tys-of MHeard′.mir} 2 {τ = MRecord′.mir} {d = off-Heard-2} field-Heard-2 (whole !))))) (from ! (hop ! (look ! 33 refl) (stop !))) (store-raw ! 0 refl (lawful-Record 𝓤 H A W .typed (p-26 .row0) _ ((parts-Heard p-26 w-25 is-28) .pg2) .0)) $
           move ! (1 ∷ []) $
           drop ! $
@@ -734,9 +734,9 @@ module _ {M : Type 1} (𝓤 : URA M) (H : Heap 𝓤) (A : Atoms 𝓤) (W : Given
           opens-slice ! tt R-Record h3 b3 o3 $
           assigns ! (bin ! (load ! (from ! (fld ! refl (stop !))) (look-in ! 77 (sub ! 0 refl (whole !)))) (lit ! tt) tt) (from ! (stop !)) (init ! 37 refl (tt, tt)) $
           rewrite ! 37 (λ (p : ℕ). ‵ (fat fullShare tyPtr l23 0 (vptr b3 p))) (sym (place-is 120 o3 4)) refl $
-          elem-out ! R-Record (Is R-Record) (shows 𝓤 H A R-Record) v-Record tells-Record fullShare h3 4 emptyRecord b3 o3 (within 4 (length h3) (lit< tt) good) (λ g-24.
+          elem-out ! R-Record (Is R-Record) (shows 𝓤 H A R-Record) v-Record tells-Record fullShare h3 4 freshRecord b3 o3 (within 4 (length h3) (lit< tt) good) (λ g-24.
           assigns ! (of-opd ! (load ! (from ! (hop ! (look ! 39 refl) (stop !))) (look-raw ! 0 refl))) (from ! (stop !)) (init ! 37 refl (lawful-Record 𝓤 H A W .typed (el 4) _ g-24 .0)) $
-          elem-back ! R-Record fullShare h3 4 emptyRecord (v-Record (el 4)) b3 o3 (within 4 (length h3) (lit< tt) good) $
+          elem-back ! R-Record fullShare h3 4 freshRecord (v-Record (el 4)) b3 o3 (within 4 (length h3) (lit< tt) good) $
           closes-slice ! tt R-Record h3 h3 refl b3 o3 $
           forget ! 36 refl $
           from-17 u-4 g-5 good u-14 g-15 u-18 g-19 g-20 g-21 g-22 g-23 g-24)
@@ -746,14 +746,14 @@ module _ {M : Type 1} (𝓤 : URA M) (H : Heap 𝓤) (A : Atoms 𝓤) (W : Given
           opens-slice ! tt R-Record h3 b3 o3 $
           assigns ! (bin ! (load ! (from ! (fld ! refl (stop !))) (look-in ! 77 (sub ! 0 refl (whole !)))) (lit ! tt) tt) (from ! (stop !)) (init ! 45 refl (tt, tt)) $
           rewrite ! 45 (λ (p : ℕ). ‵ (fat fullShare tyPtr l19 0 (vptr b3 p))) (sym (place-is 120 o3 2)) refl $
-          elem-out ! R-Record (Is R-Record) (shows 𝓤 H A R-Record) v-Record tells-Record fullShare h3 2 emptyRecord b3 o3 (within 2 (length h3) (lit< tt) good) (λ g-22.
+          elem-out ! R-Record (Is R-Record) (shows 𝓤 H A R-Record) v-Record tells-Record fullShare h3 2 freshRecord b3 o3 (within 2 (length h3) (lit< tt) good) (λ g-22.
           assigns ! (of-opd ! (load ! (from ! (hop ! (look ! 47 refl) (stop !))) (look-raw ! 0 refl))) (from ! (stop !)) (init ! 45 refl (lawful-Record 𝓤 H A W .typed (el 2) _ g-22 .0)) $
-          elem-back ! R-Record fullShare h3 2 emptyRecord (v-Record (el 2)) b3 o3 (within 2 (length h3) (lit< tt) good) $
+          elem-back ! R-Record fullShare h3 2 freshRecord (v-Record (el 2)) b3 o3 (within 2 (length h3) (lit< tt) good) $
           assigns ! (bin ! (load ! (from ! (fld ! refl (stop !))) (look-in ! 77 (sub ! 0 refl (whole !)))) (lit ! tt) tt) (from ! (stop !)) (init ! 41 refl (tt, tt)) $
           rewrite ! 41 (λ (p : ℕ). ‵ (fat fullShare tyPtr l21 0 (vptr b3 p))) (sym (place-is 120 o3 3)) refl $
-          elem-out ! R-Record (Is R-Record) (shows 𝓤 H A R-Record) v-Record tells-Record fullShare h3 3 emptyRecord b3 o3 (within 3 (length h3) (lit< tt) good) (λ g-23.
+          elem-out ! R-Record (Is R-Record) (shows 𝓤 H A R-Record) v-Record tells-Record fullShare h3 3 freshRecord b3 o3 (within 3 (length h3) (lit< tt) good) (λ g-23.
           assigns ! (of-opd ! (load ! (from ! (hop ! (look ! 43 refl) (stop !))) (look-raw ! 0 refl))) (from ! (stop !)) (init ! 41 refl (lawful-Record 𝓤 H A W .typed (el 3) _ g-23 .0)) $
-          elem-back ! R-Record fullShare h3 3 emptyRecord (v-Record (el 3)) b3 o3 (within 3 (length h3) (lit< tt) good) $
+          elem-back ! R-Record fullShare h3 3 freshRecord (v-Record (el 3)) b3 o3 (within 3 (length h3) (lit< tt) good) $
           closes-slice ! tt R-Record h3 h3 refl b3 o3 $
           forget ! 44 refl $ forget ! 40 refl $
           from-15 u-4 g-5 good u-14 g-15 u-18 g-19 g-20 g-21 g-22 g-23))
@@ -764,14 +764,14 @@ module _ {M : Type 1} (𝓤 : URA M) (H : Heap 𝓤) (A : Atoms 𝓤) (W : Given
           opens-slice ! tt R-Record h3 b3 o3 $
           assigns ! (bin ! (load ! (from ! (fld ! refl (stop !))) (look-in ! 77 (sub ! 0 refl (whole !)))) (lit ! tt) tt) (from ! (stop !)) (init ! 53 refl (tt, tt)) $
           rewrite ! 53 (λ (p : ℕ). ‵ (fat fullShare tyPtr l15 0 (vptr b3 p))) (sym (place-is 120 o3 0)) refl $
-          elem-out ! R-Record (Is R-Record) (shows 𝓤 H A R-Record) v-Record tells-Record fullShare h3 0 emptyRecord b3 o3 (within 0 (length h3) (lit< tt) good) (λ g-20.
+          elem-out ! R-Record (Is R-Record) (shows 𝓤 H A R-Record) v-Record tells-Record fullShare h3 0 freshRecord b3 o3 (within 0 (length h3) (lit< tt) good) (λ g-20.
           assigns ! (of-opd ! (load ! (from ! (hop ! (look ! 55 refl) (stop !))) (look-raw ! 0 refl))) (from ! (stop !)) (init ! 53 refl (lawful-Record 𝓤 H A W .typed (el 0) _ g-20 .0)) $
-          elem-back ! R-Record fullShare h3 0 emptyRecord (v-Record (el 0)) b3 o3 (within 0 (length h3) (lit< tt) good) $
+          elem-back ! R-Record fullShare h3 0 freshRecord (v-Record (el 0)) b3 o3 (within 0 (length h3) (lit< tt) good) $
           assigns ! (bin ! (load ! (from ! (fld ! refl (stop !))) (look-in ! 77 (sub ! 0 refl (whole !)))) (lit ! tt) tt) (from ! (stop !)) (init ! 49 refl (tt, tt)) $
           rewrite ! 49 (λ (p : ℕ). ‵ (fat fullShare tyPtr l17 0 (vptr b3 p))) (sym (place-is 120 o3 1)) refl $
-          elem-out ! R-Record (Is R-Record) (shows 𝓤 H A R-Record) v-Record tells-Record fullShare h3 1 emptyRecord b3 o3 (within 1 (length h3) (lit< tt) good) (λ g-21.
+          elem-out ! R-Record (Is R-Record) (shows 𝓤 H A R-Record) v-Record tells-Record fullShare h3 1 freshRecord b3 o3 (within 1 (length h3) (lit< tt) good) (λ g-21.
           assigns ! (of-opd ! (load ! (from ! (hop ! (look ! 51 refl) (stop !))) (look-raw ! 0 refl))) (from ! (stop !)) (init ! 49 refl (lawful-Record 𝓤 H A W .typed (el 1) _ g-21 .0)) $
-          elem-back ! R-Record fullShare h3 1 emptyRecord (v-Record (el 1)) b3 o3 (within 1 (length h3) (lit< tt) good) $
+          elem-back ! R-Record fullShare h3 1 freshRecord (v-Record (el 1)) b3 o3 (within 1 (length h3) (lit< tt) good) $
           closes-slice ! tt R-Record h3 h3 refl b3 o3 $
           forget ! 52 refl $ forget ! 48 refl $
           from-11 u-4 g-5 good u-14 g-15 u-18 g-19 g-20 g-21))

@@ -48,7 +48,7 @@ use denote.Triple.Table.{entered, cited}
 use denote.Triple.Walked.{says, Stays, stay-ref, stay-none, gave-slice, walkOf, goes-none, goes-gave-slice, goes-ref, Walks, ends-at, walked, walk-meets}
 use denote.Exit.{yes}
 use Rattle.unit_core.specs.declared.Core as U
-use Rattle.unit_core.specs.Frame.{frameAfter}
+use Rattle.unit_measuring.specs.Frame.{frameAfter}
 use Rattle.door_words.specs.declared.answers.AnswerWords.{AnswerWords}
 use Rattle.door_steps.specs.declared.Requested.{Requested}
 use Rattle.door_steps.specs.Steps.{requestedOf}

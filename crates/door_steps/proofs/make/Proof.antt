@@ -4,8 +4,8 @@ use borrow.Author.Needs.{needs}
 use Rattle.door_steps.proofs.make.Statement.{statement}
 use Rattle.door_steps.proofs.make.Tie as tie
 
-accepted-requires : tie.Need-accepted-requires
-accepted-requires c κs = search needs
+settings-requires : tie.Need-settings-requires
+settings-requires c κs = search needs
 
 enum-known-settings : tie.Need-enum-known-settings
 enum-known-settings c = search needs
@@ -26,16 +26,16 @@ made-with-requires-2 : tie.Need-made-with-requires-2
 made-with-requires-2 c κs = search needs
 
 returns : tie.Need-returns
-returns c = rw (sym (c .before .before .before .before .accepted .ensures) ∙ c .before .before .settings .given .1) (c .made-with .ensures)
+returns c = rw (sym (c .before .before .before .before .settings .ensures) ∙ c .before .before .settings2 .given .1) (c .made-with .ensures)
 
 returns-2 : tie.Need-returns-2
-returns-2 c = rw (sym (c .before .before .before .before .before .before .accepted .ensures) ∙ c .before .before .before .before .number .given .1, c .made-with2 .ensures, c .before .bare .ensures, c .before .before .number2 .ensures)
+returns-2 c = rw (sym (c .before .before .before .before .before .before .settings .ensures) ∙ c .before .before .before .before .number .given .1, c .made-with2 .ensures, c .before .bare .ensures, c .before .before .number2 .ensures)
 
 pub make-spec : {M : Type 1} → statement M
 make-spec =
     tie.close
     (tie.spec
-    accepted-requires
+    settings-requires
     enum-known-settings
     made-with-requires
     enum-known-number

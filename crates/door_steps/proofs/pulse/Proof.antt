@@ -2,7 +2,7 @@
 use mathlib.Core.Path.{sym, _∙_}
 use mir.Val.{SFits}
 use mir.Syntax.{w64}
-use Rattle.numbers.specs.Integers.{back}
+use Rattle.numbers.proofs.Integers.{back}
 use borrow.Author.Needs.{needs}
 use Rattle.door_steps.proofs.pulse.Statement.{statement}
 use Rattle.door_steps.proofs.pulse.Tie as tie

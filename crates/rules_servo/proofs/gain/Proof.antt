@@ -1,7 +1,7 @@
 -- `servo::gain` meets its contract.
 use native.Mathlib.Omega.{arith}
 use borrow.Author.Needs.{needs}
-use Rattle.numbers.specs.Integers.{back-pos}
+use Rattle.numbers.proofs.Integers.{back-pos}
 use Rattle.rules_servo.proofs.gain.Statement.{statement}
 use Rattle.rules_servo.proofs.gain.Tie as tie
 

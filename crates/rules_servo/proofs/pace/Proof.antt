@@ -5,7 +5,7 @@ use native.Mathlib.Nat.{one-mul, mod-eq-of-lt}
 use native.Mathlib.Omega.{arith}
 use borrow.Author.Needs.{needs}
 use lib.Pow.{pow-mono}
-use Rattle.numbers.specs.Integers.{back-pos, pos-fits}
+use Rattle.numbers.proofs.Integers.{back-pos, pos-fits}
 use Rattle.rules_servo.proofs.pace.Statement.{statement}
 use Rattle.rules_servo.proofs.pace.Tie as tie
 

@@ -1,5 +1,5 @@
 -- `between` meets its contract.
-use Rattle.numbers.specs.Integers.{back}
+use Rattle.numbers.proofs.Integers.{back}
 use Rattle.rules_settings.proofs.between.Statement.{statement}
 use Rattle.rules_settings.proofs.between.Tie as tie
 

@@ -5,7 +5,8 @@ use native.Mathlib.Omega.{arith}
 use borrow.Author.Needs.{needs}
 use lib.IntN.{pos}
 use mir.Facts.{fits-of-lt}
-use Rattle.numbers.specs.Integers.{dn, one-side, ltZ-true, ltZ-false, abs-up, to-unsigned, back, back-pos}
+use Rattle.numbers.specs.Integers.{dn}
+use Rattle.numbers.proofs.Integers.{one-side, ltZ-true, ltZ-false, abs-up, to-unsigned, back, back-pos}
 use Rattle.rules_settings.proofs.narrow.Statement.{statement}
 use Rattle.rules_settings.proofs.narrow.Tie as tie
 

@@ -9,7 +9,7 @@ use lib.ListN.{length}
 use denote.Ref.{now}
 use borrow.Author.Needs.{needs}
 use Rattle.numbers.specs.declared.refusal.Refusal.the-variants.{Room}
-use Rattle.wire_octets.specs.Octets.{Octets}
+use Rattle.wire_octets.proofs.Digits.{Octets}
 use Rattle.wire_layout.specs.declared.message.Message.{Message}
 use Rattle.wire_layout.specs.declared.message.Part.{Part}
 use Rattle.wire_layout.specs.declared.message.Read.the-variants.{Got}
@@ -17,16 +17,16 @@ use Rattle.wire_layout.specs.declared.message.Written.the-variants.{Wrote, Barr
 use Rattle.wire_layout.specs.Reading.{readOf, suffixIn}
 use Rattle.wire_layout.specs.Writing.{writeOf, leftBy}
 use Rattle.wire_layout.proofs.Trips.{lies, back-and-there, written-read}
-use Rattle.wire_frames.specs.Frames.{writtenBack, backAndThere, copied}
+use Rattle.wire_frames.specs.Frames.{writtenBack, readWritten, copied}
 use Rattle.wire_frames.proofs.read_written.Statement.{statement}
 use Rattle.wire_frames.proofs.read_written.Tie as tie
 
 -- what the writer says of the message and the suffix that were read, said of the octets
 module _ (s d u : List ℕ) (m : Message) (p : Part) (o : Octets s) (got : readOf s ≡ Got m p) (is : u ≡ suffixIn s) where
-  wrote : writeOf m u (length d) ≡ backAndThere s (length d)
+  wrote : writeOf m u (length d) ≡ readWritten s (length d)
   wrote = rw is (back-and-there s m p (length d) o got) ∙ sym (ap (λ r. writtenBack r (length d)) got)
 
-  left : leftBy (writeOf m u (length d)) m u d ≡ copied (backAndThere s (length d)) s d
+  left : leftBy (writeOf m u (length d)) m u d ≡ copied (readWritten s (length d)) s d
   left = rw wrote (rw got (by (ltb (length d) (p .to))))
     where
       by : (b : Bool) → leftBy (cond b (Barred Room) (Wrote (p .to))) m u d ≡ copied (cond b (Barred Room) (Wrote (p .to))) s d

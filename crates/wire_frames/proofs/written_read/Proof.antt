@@ -8,7 +8,7 @@ use Rattle.wire_layout.specs.Reading.{readOf}
 use Rattle.wire_layout.specs.declared.message.Written.the-variants.{Wrote}
 use Rattle.wire_layout.proofs.Ranges.{message-in}
 use Rattle.wire_layout.proofs.Trips.{there-and-back}
-use Rattle.wire_frames.specs.Frames.{thereAndBack}
+use Rattle.wire_frames.specs.Frames.{writtenRead}
 use Rattle.wire_frames.proofs.written_read.Statement.{statement}
 use Rattle.wire_frames.proofs.written_read.Tie as tie
 
@@ -36,7 +36,7 @@ returns c =
     let d = now (s .args .part) in
     let e : writeOf m t (length d) ≡ Wrote _ = sym (w .write .ensures .0) ∙ c .before .before .enum-told .given .1 in
     let l = rw e at (w .write .ensures .1) in
-    (c .read .ensures ∙ ap readOf l ∙ there-and-back m t d _ (message-in m _ (s .good .0)) e ∙ sym (ap (thereAndBack m) e), w .write .ensures .1)
+    (c .read .ensures ∙ ap readOf l ∙ there-and-back m t d _ (message-in m _ (s .good .0)) e ∙ sym (ap (writtenRead m) e), w .write .ensures .1)
 
 same-length-2 : tie.Need-same-length-2
 same-length-2 c = search needs
@@ -45,7 +45,7 @@ returns-2 : tie.Need-returns-2
 returns-2 c =
     let w = c .before .before .before .before .before in
     let s = w .before .before .before .before in
-    (sym (ap (thereAndBack (s .args .m)) (sym (w .write .ensures .0) ∙ c .before .r .given .1)), w .write .ensures .1)
+    (sym (ap (writtenRead (s .args .m)) (sym (w .write .ensures .0) ∙ c .before .r .given .1)), w .write .ensures .1)
 
 pub written-read-spec : {M : Type 1} → statement M
 written-read-spec =

@@ -2,37 +2,37 @@
 use mathlib.Core.Path.{ap, ap₂}
 use native.Mathlib.Omega.{arith}
 use Rattle.wire_layout.specs.declared.message.Body.the-variants.{Sync, DelayReq, FollowUp, DelayResp, Announce}
-use Rattle.wire_layout.specs.Kinds.{fixedOf}
+use Rattle.wire_layout.specs.Kinds.{fixedLengthOf}
 use Rattle.wire_layout.specs.Positions.{bodyOf}
-use Rattle.wire_layout.proofs.Known.{room-44, last-kind}
+use Rattle.wire_layout.proofs.Known.{known-fixed, room-44, last-kind}
 use Rattle.wire_reader.proofs.body_of.Statement.{statement}
 use Rattle.wire_reader.proofs.body_of.Tie as tie
 
 stamp-at-requires : tie.Need-stamp-at-requires
-stamp-at-requires c κs = let p = c .before .before .pre in omega (arith, room-44 (p .0))
+stamp-at-requires c κs = let p = c .before .before .pre in omega (arith, room-44 (known-fixed (p .0)))
 
 stamp-at-requires-2 : tie.Need-stamp-at-requires-2
-stamp-at-requires-2 c κs = let p = c .before .before .pre in omega (arith, room-44 (p .0))
+stamp-at-requires-2 c κs = let p = c .before .before .pre in omega (arith, room-44 (known-fixed (p .0)))
 
 stamp-at-requires-3 : tie.Need-stamp-at-requires-3
-stamp-at-requires-3 c κs = let p = c .before .before .pre in omega (arith, room-44 (p .0))
+stamp-at-requires-3 c κs = let p = c .before .before .pre in omega (arith, room-44 (known-fixed (p .0)))
 
 stamp-at-requires-4 : tie.Need-stamp-at-requires-4
-stamp-at-requires-4 c κs = let p = c .before .before .pre in omega (arith, room-44 (p .0))
+stamp-at-requires-4 c κs = let p = c .before .before .pre in omega (arith, room-44 (known-fixed (p .0)))
 
 port-at-requires : tie.Need-port-at-requires
-unfolding fixedOf
+unfolding fixedLengthOf
 port-at-requires c κs = rw (c .before .match .keys4) at (c .before .before .before .pre .1)
 
 stamp-at-requires-5 : tie.Need-stamp-at-requires-5
-stamp-at-requires-5 c κs = let p = c .before .before .pre in omega (arith, room-44 (p .0))
+stamp-at-requires-5 c κs = let p = c .before .before .pre in omega (arith, room-44 (known-fixed (p .0)))
 
 offer-of-requires : tie.Need-offer-of-requires
-unfolding fixedOf
+unfolding fixedLengthOf
 offer-of-requires c κs =
     let p = c .before .before .before .pre in
     let r = c .before .match .rest in
-    rw (last-kind (p .0) (r .0 .0 .0 .1) (r .0 .0 .1) (r .0 .1) (r .1)) at (p .1)
+    rw (last-kind (known-fixed (p .0)) (r .0 .0 .0 .1) (r .0 .0 .1) (r .0 .1) (r .1)) at (p .1)
 
 returns : tie.Need-returns
 unfolding bodyOf
@@ -55,7 +55,7 @@ unfolding bodyOf
 returns-5 c =
     let p = c .before .before .before .before .pre in
     let r = c .before .before .match .rest in
-    rw (last-kind (p .0) (r .0 .0 .0 .1) (r .0 .0 .1) (r .0 .1) (r .1)) (ap₂ Announce (c .before .stamp-at5 .ensures) (c .offer-of .ensures))
+    rw (last-kind (known-fixed (p .0)) (r .0 .0 .0 .1) (r .0 .0 .1) (r .0 .1) (r .1)) (ap₂ Announce (c .before .stamp-at5 .ensures) (c .offer-of .ensures))
 
 pub body-of-spec : {M : Type 1} → statement M
 body-of-spec =

@@ -1,7 +1,7 @@
 -- `offer_octets` meets its contract.
 use mathlib.Core.Path.{ap}
 use Rattle.wire_layout.specs.Writing.{offerBits}
-use Rattle.wire_octets.specs.Octets.{digits}
+use Rattle.wire_octets.specs.Octets.{bigEndian}
 use borrow.Author.Needs.{needs}
 use Rattle.wire_writer.proofs.offer_octets.Statement.{statement}
 use Rattle.wire_writer.proofs.offer_octets.Tie as tie
@@ -52,7 +52,7 @@ cast-t43 : tie.Need-cast-t43
 cast-t43 c = search needs
 
 returns : tie.Need-returns
-unfolding offerBits digits
+unfolding offerBits bigEndian
 returns c = ap (offerBits (c .before .args .o)) (c .utc-bits .ensures)
 
 pub offer-octets-spec : {M : Type 1} → statement M

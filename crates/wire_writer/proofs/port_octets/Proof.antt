@@ -1,7 +1,7 @@
 -- `port_octets` meets its contract.
 use mathlib.Core.Path.{refl}
 use Rattle.wire_layout.specs.Writing.{portOctets}
-use Rattle.wire_octets.specs.Octets.{digits}
+use Rattle.wire_octets.specs.Octets.{bigEndian}
 use borrow.Author.Needs.{needs}
 use Rattle.wire_writer.proofs.port_octets.Statement.{statement}
 use Rattle.wire_writer.proofs.port_octets.Tie as tie
@@ -37,7 +37,7 @@ cast-t31 : tie.Need-cast-t31
 cast-t31 c = search needs
 
 returns : tie.Need-returns
-unfolding portOctets digits
+unfolding portOctets bigEndian
 returns c = refl
 
 pub port-octets-spec : {M : Type 1} → statement M

@@ -1,7 +1,7 @@
 -- `stamp_octets` meets its contract.
 use mathlib.Core.Path.{refl}
 use Rattle.wire_layout.specs.Writing.{stampOctets}
-use Rattle.wire_octets.specs.Octets.{digits}
+use Rattle.wire_octets.specs.Octets.{bigEndian}
 use borrow.Author.Needs.{needs}
 use Rattle.wire_writer.proofs.stamp_octets.Statement.{statement}
 use Rattle.wire_writer.proofs.stamp_octets.Tie as tie
@@ -37,7 +37,7 @@ cast-t31 : tie.Need-cast-t31
 cast-t31 c = search needs
 
 returns : tie.Need-returns
-unfolding stampOctets digits
+unfolding stampOctets bigEndian
 returns c = refl
 
 pub stamp-octets-spec : {M : Type 1} → statement M

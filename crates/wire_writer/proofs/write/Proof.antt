@@ -4,7 +4,7 @@ use Prim.Native.Nat.{_+_, _≤_}
 use native.Mathlib.Omega.{arith}
 use lib.ListN.{length}
 use denote.Ref.{now}
-use Rattle.wire_layout.specs.Kinds.{sizeOf, stampIn}
+use Rattle.wire_layout.specs.Kinds.{bodySize, stampIn}
 use Rattle.wire_layout.proofs.Sizes.{size-44, size-64, kind-16}
 use Rattle.wire_layout.proofs.Stores.{fit, w-field, w-suffix, w-length, w-room, w-wrote, stored}
 use borrow.Author.Needs.{needs}
@@ -49,7 +49,7 @@ returns-2 c =
     let f = rw (c .before .before .before .before .before .before .before .stamp .ensures) at (sym (c .before .before .before .before .before .before .fields-fit .ensures) ∙ c .before .before .before .before .before .if1 .taken) in
     let w = sym (c .before .before .before .before .whole .ensures) ∙ c .before .before .before .if2 .taken in
     let z = c .before .before .size .ensures in
-    let l : sizeOf (m .body) + length t ≤ 65535 = omega (arith, rw z at (c .before .if3 .left), size-64 (m .body)) in
+    let l : bodySize (m .body) + length t ≤ 65_535 = omega (arith, rw z at (c .before .if3 .left), size-64 (m .body)) in
     rw (w-room m t (length d) f w l (rw z at (c .if4 .taken))) (refl, refl)
 
 kind-requires : tie.Need-kind-requires
@@ -87,10 +87,10 @@ returns-3 c =
     let f = rw (c .before .before .before .before .before .before .before .before .before .before .before .before .before .before .before .before .before .before .before .before .stamp .ensures) at (sym (c .before .before .before .before .before .before .before .before .before .before .before .before .before .before .before .before .before .before .before .fields-fit .ensures) ∙ c .before .before .before .before .before .before .before .before .before .before .before .before .before .before .before .before .before .before .if1 .taken) in
     let w = sym (c .before .before .before .before .before .before .before .before .before .before .before .before .before .before .before .before .before .whole .ensures) ∙ c .before .before .before .before .before .before .before .before .before .before .before .before .before .before .before .before .if2 .taken in
     let z = c .before .before .before .before .before .before .before .before .before .before .before .before .before .before .before .size .ensures in
-    let l : sizeOf (m .body) + length t ≤ 65535 = omega (arith, rw z at (c .before .before .before .before .before .before .before .before .before .before .before .before .before .before .if3 .left), size-64 (m .body)) in
+    let l : bodySize (m .body) + length t ≤ 65_535 = omega (arith, rw z at (c .before .before .before .before .before .before .before .before .before .before .before .before .before .before .if3 .left), size-64 (m .body)) in
     let r = rw z at (c .before .before .before .before .before .before .before .before .before .before .before .before .before .if4 .left) in
     rw (w-wrote m t (length d) f w l r, c .before .before .copy-in .ensures, c .before .before .before .before .before .before .put-body .ensures, c .before .before .before .before .before .before .before .before .before .before .put-header .ensures, c .before .before .before .before .before .before .before .before .before .before .before .kind .ensures, z)
-    (refl, stored m (sizeOf (m .body) + length t) t d r)
+    (refl, stored m (bodySize (m .body) + length t) t d r)
 
 returns-4 : tie.Need-returns-4
 returns-4 c =

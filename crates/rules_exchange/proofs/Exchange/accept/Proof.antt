@@ -6,11 +6,15 @@ use borrow.Author.Needs.{needs}
 use lib.IntN.{pos, _-ℤ_}
 use mir.Syntax.{w64}
 use mir.Val.{SFits, toZ}
-use Rattle.numbers.specs.Integers.{Within, back, back-pos}
+use Rattle.numbers.specs.Integers.{Within}
+use Rattle.numbers.proofs.Integers.{back, back-pos}
 use Rattle.numbers.proofs.Straight.{raw, sub, asks, end, _▸_}
 use Rattle.rules_exchange.proofs.Judged.{accept-step, accept-measured}
 use Rattle.rules_exchange.proofs.Exchange.accept.Statement.{statement}
 use Rattle.rules_exchange.proofs.Exchange.accept.Tie as tie
+
+forward-fits : (s : tie.Start) → SFits w64 (s .args .forward .0)
+forward-fits s = search needs
 
 -- the delay that is used, and the offset
 module _ (c : tie.After-filter) where
@@ -20,7 +24,7 @@ module _ (c : tie.After-filter) where
   used : toZ w64 (c .filter .result .used) ≡ pos (c .filter .result .used)
   used = back-pos (omega (arith, small))
 
-  offset : SFits w64 (c .before .before .args .forward -ℤ pos (c .filter .result .used))
+  offset : SFits w64 (c .before .before .args .forward .0 -ℤ pos (c .filter .result .used))
   offset =
       let u : Within (2 ^ 32) (pos (c .filter .result .used)) = omega (arith, small) in
       asks (c .before .before .pre ▸ u ▸ end) (sub (raw 0) (raw 1)) tt
@@ -32,35 +36,38 @@ cast-offset : tie.Need-cast-offset
 cast-offset c = search needs
 
 sub-offset : tie.Need-sub-offset
-sub-offset c = rw (back (c .before .before .fits .forward), used c) (offset c)
+sub-offset c =
+    let t = c .before .before in
+    rw (back (forward-fits (t .before .before)), used t) (offset t)
 
-steps-requires : tie.Need-steps-requires
-steps-requires c κs = search needs
+is-step-requires : tie.Need-is-step-requires
+is-step-requires c κs = search needs
 
-fresh-requires : tie.Need-fresh-requires
-fresh-requires c κs = search needs
+say-requires : tie.Need-say-requires
+say-requires c κs = search needs
 
 returns : tie.Need-returns
 returns c =
-    let t = c .before .before .before in
+    let t = c .before .before .before .before .before in
     let s = t .before .before in
-    let h = rw (back (s .fits .forward)) at (c .before .before .steps .ensures) in
-    rw (back (s .fits .forward), used t, back (offset t))
-    (accept-step (s .args .self) (s .args .forward) (s .args .delay) (t .filter .result) (t .filter .ensures) (c .fresh .result) (c .fresh .ensures) (sym h ∙ c .before .if1 .taken))
+    (rw (back (forward-fits s), used t, back (offset t)) at (c .say .ensures))
+    ∙ accept-step (s .args .self) (s .args .forward .0) (s .args .delay) (t .filter .result) (t .filter .ensures) (sym (c .before .before .is-step .ensures) ∙ c .before .if1 .taken)
 
 cast-t9 : tie.Need-cast-t9
 cast-t9 c = search needs
 
-cast-t15 : tie.Need-cast-t15
-cast-t15 c = search needs
+cast-t14 : tie.Need-cast-t14
+cast-t14 c = search needs
+
+say-requires-2 : tie.Need-say-requires-2
+say-requires-2 c κs = search needs
 
 returns-2 : tie.Need-returns-2
 returns-2 c =
-    let t = c .before .before in
+    let t = c .before .before .before .before .before in
     let s = t .before .before in
-    let h = rw (back (s .fits .forward)) at (c .before .steps .ensures) in
-    rw (back (s .fits .forward), used t, back (offset t), back-pos {n = s .args .delay} (omega arith))
-    (accept-measured (s .args .self) (s .args .forward) (s .args .delay) (t .filter .result) (t .filter .ensures) (sym h ∙ c .if1 .left))
+    (rw (back (forward-fits s), used t, back (offset t), back-pos {n = s .args .delay} (omega arith)) at (c .say2 .ensures))
+    ∙ accept-measured (s .args .self) (s .args .forward .0) (s .args .delay) (t .filter .result) (t .filter .ensures) (sym (c .before .before .is-step .ensures) ∙ c .before .if1 .left)
 
 pub accept-spec : {M : Type 1} → statement M
 accept-spec =
@@ -69,9 +76,10 @@ accept-spec =
     filter-requires
     cast-offset
     sub-offset
-    steps-requires
-    fresh-requires
+    is-step-requires
+    say-requires
     returns
     cast-t9
-    cast-t15
+    cast-t14
+    say-requires-2
     returns-2)

@@ -1,20 +1,12 @@
--- The refusals in their order, and then the table's row: the measurement, judged as the exact numbers are.
-use mathlib.Core.Path.{refl, sym, _∙_}
+-- CORRECTION, UNMATCHED, and then the table's row: the measurement, judged as the exact numbers are.
+use mathlib.Core.Path.{sym, _∙_}
 use borrow.Author.Needs.{needs}
-use mir.Syntax.{w64}
-use mir.Val.{SFits}
-use Rattle.numbers.specs.Integers.{back}
+use Rattle.numbers.proofs.Integers.{back}
 use Rattle.rules_exchange.specs.Table.{delayResp}
 use Rattle.rules_exchange.proofs.Judged.{finish-times}
 use Rattle.rules_exchange.proofs.Told.{told-correction, told-finished, told-stranger}
 use Rattle.rules_exchange.proofs.Exchange.delay_resp.Statement.{statement}
 use Rattle.rules_exchange.proofs.Exchange.delay_resp.Tie as tie
-
-forward-fits : (m : tie.After-measured) → SFits w64 (m .measured .result .forward)
-forward-fits m = search needs
-
-sum-fits : (m : tie.After-measured) → SFits w64 (m .measured .result .sum)
-sum-fits m = search needs
 
 correction-requires : tie.Need-correction-requires
 correction-requires c κs = search needs
@@ -26,14 +18,13 @@ returns : tie.Need-returns
 returns c =
     let s = c .before .before .before in
     let h = rw (back (s .fits .correction)) at (c .before .before .correction .ensures) in
-    c .refuse .ensures
-    ∙ sym (told-correction (s .args .self) (delayResp (s .args .sequence) (s .args .correction) (s .args .t4) (s .args .requester) (s .args .own)) refl (sym h ∙ c .before .if1 .taken))
+    c .refuse .ensures ∙ sym (told-correction (s .args .self) (delayResp (s .args .sequence) (s .args .correction) (s .args .t4) (s .args .requester) (s .args .own)) (sym h ∙ c .before .if1 .taken))
 
 partners-requires : tie.Need-partners-requires
 partners-requires c κs = search needs
 
-measured-requires : tie.Need-measured-requires
-measured-requires c κs = search needs
+times-requires : tie.Need-times-requires
+times-requires c κs = search needs
 
 finish-requires : tie.Need-finish-requires
 finish-requires c κs = search needs
@@ -43,15 +34,15 @@ refuse-requires-2 c κs = search needs
 
 returns-2 : tie.Need-returns-2
 returns-2 c =
-    let m = c .before .before .before in
+    let m = c .before in
     let q = m .before in
     let k = q .before .before .before .before in
     let s = k .before .before in
     let x = s .args .self in
     let h = rw (back (s .fits .correction)) at (k .before .correction .ensures) in
-    let e = rw (back (s .fits .correction)) at (m .measured .ensures) in
-    (rw (back (forward-fits m), back (sum-fits m)) at (c .finish .ensures))
-    ∙ finish-times x (m .measured .result) (x .sync) (x .request) (s .args .t4) (s .args .correction) e
+    let e = rw (back (s .fits .correction)) at (m .times .ensures) in
+    c .finish .ensures
+    ∙ finish-times x (m .times .result) (x .sync .t1) (x .sync .t2) (x .sync .correction) (x .sync .follow) (x .request .t3) (s .args .t4) (s .args .correction) e
     ∙ sym
     (told-finished x (s .args .sequence) (s .args .correction) (s .args .t4) (s .args .requester) (s .args .own) (sym h ∙ k .if1 .left)
     (sym (q .before .partners .ensures) ∙ q .if2 .taken))
@@ -75,7 +66,7 @@ delay-resp-spec =
     refuse-requires
     returns
     partners-requires
-    measured-requires
+    times-requires
     finish-requires
     refuse-requires-2
     returns-2

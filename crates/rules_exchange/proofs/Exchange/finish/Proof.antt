@@ -1,7 +1,6 @@
 -- Both halves are spent, and the sum decides.
 use mathlib.Core.Path.{sym, _∙_}
 use borrow.Author.Needs.{needs}
-use Rattle.numbers.specs.Integers.{back}
 use Rattle.rules_exchange.proofs.Judged.{finish-by}
 use Rattle.rules_exchange.proofs.Exchange.finish.Statement.{statement}
 use Rattle.rules_exchange.proofs.Exchange.finish.Tie as tie
@@ -38,28 +37,27 @@ returns c =
     let j = c .before .before .before in
     let f = j .before in
     let s = f .before .before in
-    let h = rw (back (s .fits .sum)) at (j .judge-sum .ensures) in
     c .break-rows .ensures
-    ∙ finish-by (s .args .self) (s .args .forward) (s .args .sum) (f .before .fresh .result) (f .fresh2 .result) (f .before .fresh .ensures) (f .fresh2 .ensures) _ (sym h ∙ c .before .enum-told .given .1)
+    ∙ finish-by (s .args .self) (s .args .times .forward .0) (s .args .times .sum .0) (f .before .fresh .result) (f .fresh2 .result) (f .before .fresh .ensures) (f .fresh2 .ensures) _
+    (sym (j .judge-sum .ensures) ∙ c .before .enum-told .given .1)
 
 returns-2 : tie.Need-returns-2
 returns-2 c =
     let j = c .before .before .before in
     let f = j .before in
     let s = f .before .before in
-    let h = rw (back (s .fits .sum)) at (j .judge-sum .ensures) in
     c .break-rows2 .ensures
-    ∙ finish-by (s .args .self) (s .args .forward) (s .args .sum) (f .before .fresh .result) (f .fresh2 .result) (f .before .fresh .ensures) (f .fresh2 .ensures) _ (sym h ∙ c .before .enum-told2 .given .1)
+    ∙ finish-by (s .args .self) (s .args .times .forward .0) (s .args .times .sum .0) (f .before .fresh .result) (f .fresh2 .result) (f .before .fresh .ensures) (f .fresh2 .ensures) _
+    (sym (j .judge-sum .ensures) ∙ c .before .enum-told2 .given .1)
 
 returns-3 : tie.Need-returns-3
 returns-3 c =
-    let d = c .before .before in
-    let j = d .before .before in
+    let j = c .before .before .before .before in
     let f = j .before in
     let s = f .before .before in
-    let h = rw (back (s .fits .sum)) at (j .judge-sum .ensures) in
-    (rw (back (s .fits .forward)) at (c .judge .ensures))
-    ∙ finish-by (s .args .self) (s .args .forward) (s .args .sum) (f .before .fresh .result) (f .fresh2 .result) (f .before .fresh .ensures) (f .fresh2 .ensures) _ (sym h ∙ d .delay .given .1)
+    c .judge .ensures
+    ∙ finish-by (s .args .self) (s .args .times .forward .0) (s .args .times .sum .0) (f .before .fresh .result) (f .fresh2 .result) (f .before .fresh .ensures) (f .fresh2 .ensures) _
+    (sym (j .judge-sum .ensures) ∙ c .before .before .delay .given .1)
 
 pub finish-spec : {M : Type 1} → statement M
 finish-spec =

@@ -2,9 +2,8 @@
 use mathlib.Core.Path.{sym, _∙_}
 use native.Mathlib.Omega.{arith}
 use borrow.Author.Needs.{needs}
-use Rattle.numbers.specs.Integers.{back}
 use Rattle.rules_exchange.specs.Events.{judged}
-use Rattle.rules_exchange.proofs.Judged.{not-huge}
+use Rattle.rules_measure.proofs.Far.{not-huge}
 use Rattle.rules_exchange.proofs.Exchange.judge.Statement.{statement}
 use Rattle.rules_exchange.proofs.Exchange.judge.Tie as tie
 
@@ -16,10 +15,7 @@ huge-again-requires c κs = search needs
 
 returns : tie.Need-returns
 unfolding judged
-returns c =
-    let s = c .before .before .before in
-    let h = rw (back (s .fits .forward)) at (c .before .before .huge .ensures) in
-    c .huge-again .ensures ∙ rw (sym h ∙ c .before .if1 .taken)
+returns c = c .huge-again .ensures ∙ rw (sym (c .before .before .huge .ensures) ∙ c .before .if1 .taken)
 
 judge-path-requires : tie.Need-judge-path-requires
 judge-path-requires c κs = search needs
@@ -31,24 +27,19 @@ returns-2 : tie.Need-returns-2
 unfolding judged
 returns-2 c =
     let k = c .before .before .before .before in
-    let s = k .before .before in
-    let h = rw (back (s .fits .forward)) at (k .before .huge .ensures) in
-    c .path-again .ensures ∙ rw (sym h ∙ k .if1 .left, sym (c .before .before .judge-path .ensures) ∙ c .before .if2 .taken)
+    c .path-again .ensures ∙ rw (sym (k .before .huge .ensures) ∙ k .if1 .left, sym (c .before .before .judge-path .ensures) ∙ c .before .if2 .taken)
 
 accept-requires : tie.Need-accept-requires
 accept-requires c κs =
     let k = c .before .before .before in
     let s = k .before .before in
-    let h = rw (back (s .fits .forward)) at (k .before .huge .ensures) in
-    rw (back (s .fits .forward)) (not-huge (s .args .forward) (s .args .delay) (omega arith) (sym h ∙ k .if1 .left))
+    not-huge (s .args .forward .0) (s .args .delay) (omega arith) (sym (k .before .huge .ensures) ∙ k .if1 .left)
 
 returns-3 : tie.Need-returns-3
 unfolding judged
 returns-3 c =
     let k = c .before .before .before .before in
-    let s = k .before .before in
-    let h = rw (back (s .fits .forward)) at (k .before .huge .ensures) in
-    (rw (back (s .fits .forward)) at (c .accept .ensures)) ∙ rw (sym h ∙ k .if1 .left, sym (c .before .before .judge-path .ensures) ∙ c .before .if2 .left)
+    c .accept .ensures ∙ rw (sym (k .before .huge .ensures) ∙ k .if1 .left, sym (c .before .before .judge-path .ensures) ∙ c .before .if2 .left)
 
 pub judge-spec : {M : Type 1} → statement M
 judge-spec =

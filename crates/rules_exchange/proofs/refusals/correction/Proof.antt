@@ -3,7 +3,7 @@ use mathlib.Core.Path.{ap}
 use lib.Dec.{leb}
 use Prim.Native.Nat.{ℕ}
 use borrow.Author.Needs.{needs}
-use Rattle.numbers.specs.Integers.{back}
+use Rattle.numbers.proofs.Integers.{back}
 use Rattle.rules_exchange.proofs.refusals.correction.Statement.{statement}
 use Rattle.rules_exchange.proofs.refusals.correction.Tie as tie
 

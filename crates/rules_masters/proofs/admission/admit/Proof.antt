@@ -1,8 +1,9 @@
--- masters::admission::admit meets its contract.
+-- rules_masters::admission::admit meets its contract.
 use mathlib.Core.Path.{sym, _∙_}
 use borrow.Author.Needs.{needs}
-use Rattle.rules_masters.specs.Admitting.{admittedOf, seatedOf}
-use Rattle.rules_masters.proofs.Grounds.{first-append}
+use Rattle.rules_masters.specs.Admitting.{admittedOf}
+use Rattle.rules_masters.specs.Inner.{seatedOf}
+use Rattle.rules_masters.proofs.Barring.{two-parts}
 use Rattle.rules_masters.proofs.admission.admit.Statement.{statement}
 use Rattle.rules_masters.proofs.admission.admit.Tie as tie
 
@@ -23,12 +24,12 @@ seat-requires c κs = search needs
 
 returns : tie.Need-returns
 unfolding admittedOf
-returns c = rw (first-append, sym (c .before .before .before .barred .ensures) ∙ c .before .refusal .given .1)
+returns c = rw (two-parts, sym (c .before .before .before .barred .ensures) ∙ c .before .refusal .given .1)
 
 returns-2 : tie.Need-returns-2
 unfolding admittedOf seatedOf
 returns-2 c =
-    rw (first-append, sym (c .before .before .before .before .barred .ensures) ∙ c .before .before .enum-told .given .1)
+    rw (two-parts, sym (c .before .before .before .before .barred .ensures) ∙ c .before .before .enum-told .given .1)
     (rw (c .before .interval .ensures) at (c .seat .ensures))
 
 pub admit-spec : {M : Type 1} → statement M

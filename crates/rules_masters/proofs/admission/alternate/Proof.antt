@@ -1,4 +1,4 @@
--- masters::admission::alternate meets its contract.
+-- rules_masters::admission::alternate meets its contract.
 use mathlib.Core.Path.{refl}
 use Rattle.rules_masters.specs.Admitting.{alternateOf}
 use Rattle.rules_masters.proofs.admission.alternate.Statement.{statement}

@@ -1,4 +1,4 @@
--- masters::admission::seat meets its contract: each of its returns is one of the four ways.
+-- rules_masters::admission::seat meets its contract: each of its returns is one of the four ways.
 use mathlib.Core.Path.{_≡_}
 use lib.ListN.{length, length-map}
 use borrow.Author.Needs.{needs}

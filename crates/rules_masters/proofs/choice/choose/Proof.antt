@@ -1,4 +1,4 @@
--- masters::choice::choose meets its contract. The loop's invariant: going on from what is held, through the places left, is the whole choice.
+-- rules_masters::choice::choose meets its contract. The loop's invariant: going on from what is held, through the places left, is the whole choice.
 use mathlib.Core.Path.{_≡_, _∙_}
 use Prim.Native.Nat.{_≤_, _-_}
 use native.Mathlib.Omega.{arith}

@@ -1,7 +1,7 @@
--- masters::choice::keep meets its contract.
+-- rules_masters::choice::keep meets its contract.
 use mathlib.Core.Path.{sym, _∙_}
 use borrow.Author.Needs.{needs}
-use Rattle.rules_masters.specs.Choosing.{keptOf}
+use Rattle.rules_masters.specs.Inner.{keptOf}
 use Rattle.rules_masters.proofs.choice.keep.Statement.{statement}
 use Rattle.rules_masters.proofs.choice.keep.Tie as tie
 

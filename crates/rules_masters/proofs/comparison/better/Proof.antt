@@ -1,4 +1,4 @@
--- masters::comparison::better meets its contract.
+-- rules_masters::comparison::better meets its contract.
 use borrow.Author.Needs.{needs}
 use borrow.Author.Tests.{eq-eqb, ne-eqb}
 use Rattle.rules_masters.specs.Comparison.{betterOf}

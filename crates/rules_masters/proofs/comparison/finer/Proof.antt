@@ -1,4 +1,4 @@
--- masters::comparison::finer meets its contract. What the first tests showed lies far back, and is handed to the search.
+-- rules_masters::comparison::finer meets its contract. What the first tests showed lies far back, and is handed to the search.
 use Rattle.rules_masters.proofs.Smaller.{decided}
 use Rattle.rules_masters.proofs.comparison.finer.Statement.{statement}
 use Rattle.rules_masters.proofs.comparison.finer.Tie as tie

@@ -1,4 +1,4 @@
--- masters::comparison::nearer meets its contract.
+-- rules_masters::comparison::nearer meets its contract.
 use Rattle.rules_masters.proofs.Smaller.{decided}
 use Rattle.rules_masters.proofs.comparison.nearer.Statement.{statement}
 use Rattle.rules_masters.proofs.comparison.nearer.Tie as tie

@@ -1,4 +1,4 @@
--- masters::record::interval meets its contract: each exponent by computation, and min brings the rest down to 4.
+-- rules_masters::record::interval meets its contract: each exponent by computation, and min brings the rest down to 4.
 use mathlib.Core.Path.{_≡_}
 use Prim.Native.Nat.{min}
 use native.Mathlib.Omega.{arith}

@@ -1,4 +1,4 @@
--- masters::record::same_key meets its contract.
+-- rules_masters::record::same_key meets its contract.
 use borrow.Author.Tests.{eq-eqb, ne-eqb}
 use Rattle.rules_masters.specs.Records.{sameKeyOf}
 use Rattle.rules_masters.proofs.record.same_key.Statement.{statement}

@@ -1,4 +1,4 @@
--- masters::record::within meets its contract: now - arrival is at most the span exactly where now is at most arrival + span.
+-- rules_masters::record::within meets its contract: now - arrival is at most the span exactly where now is at most arrival + span.
 use Prim.Native.Nat.{_+_, _≤_}
 use native.Mathlib.Omega.{arith}
 use borrow.Author.Tests.{le-leb}

@@ -23,12 +23,12 @@ sub-result c = search needs
 returns : tie.Need-returns
 returns c =
     let s = c .before .before in
-    rw (c .before .if1 .taken) (over (s .args .last) (s .args .now) 10000 (c .if2 .taken))
+    rw (c .before .if1 .taken) (over (s .args .last) (s .args .now) 10_000 (c .if2 .taken))
 
 returns-2 : tie.Need-returns-2
 returns-2 c =
     let s = c .before .before in
-    rw (c .before .if1 .taken) (sym (le-ltb (s .args .last + 10000) (s .args .now) (omega arith)))
+    rw (c .before .if1 .taken) (sym (le-ltb (s .args .last + 10_000) (s .args .now) (omega arith)))
 
 returns-3 : tie.Need-returns-3
 returns-3 c = search needs

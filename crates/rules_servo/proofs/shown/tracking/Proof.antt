@@ -37,14 +37,14 @@ module _ (a : tie.At-loop Inv-loop μ-loop) where
   fits : SFits w32 (at O (a .loop .i))
   fits = search (needs, elements-fit)
 
-  sums : Env (990 ∷ (98010 ∷ [])) (a .loop .totals .sum ∷ (a .loop .totals .squares ∷ []))
+  sums : Env (990 ∷ (98_010 ∷ [])) (a .loop .totals .sum ∷ (a .loop .totals .squares ∷ []))
   sums =
       let p = a .loop .inv .1 in
       let w : Within 990 (a .loop .totals .sum) = omega (arith, p .small) in
-      let u : Within 98010 (a .loop .totals .squares) = omega (arith, p .smallSquares) in
+      let u : Within 98_010 (a .loop .totals .squares) = omega (arith, p .smallSquares) in
       w ▸ u ▸ end
 
-  with-x : natAbs (at O (a .loop .i)) ≤ 99 → Env (99 ∷ (990 ∷ (98010 ∷ []))) (at O (a .loop .i) ∷ (a .loop .totals .sum ∷ (a .loop .totals .squares ∷ [])))
+  with-x : natAbs (at O (a .loop .i)) ≤ 99 → Env (99 ∷ (990 ∷ (98_010 ∷ []))) (at O (a .loop .i) ∷ (a .loop .totals .sum ∷ (a .loop .totals .squares ∷ [])))
   with-x h = abs-within (at O (a .loop .i)) h ▸ sums
 
 -- how far the offset is from 0

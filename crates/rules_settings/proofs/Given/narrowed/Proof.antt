@@ -5,7 +5,8 @@ use borrow.Author.Needs.{needs}
 use mir.Val.{SFits}
 use mir.Facts.{toZ-pos}
 use mir.Syntax.{w32, w64}
-use Rattle.numbers.specs.Integers.{up, back}
+use Rattle.numbers.specs.Integers.{up}
+use Rattle.numbers.proofs.Integers.{back}
 use Rattle.rules_settings.proofs.Given.narrowed.Statement.{statement}
 use Rattle.rules_settings.proofs.Given.narrowed.Tie as tie
 
@@ -113,7 +114,7 @@ returns c =
       rw (back (fits-kp (c .before .before .before .before .before))) at (c .before .before .before .before .narrow9 .ensures),
       rw (back (fits-ki (c .before .before .before))) at (c .before .before .narrow10 .ensures),
       rw (back (fits-limit (c .before))) at (c .narrow11 .ensures),
-      toZ-pos w32 {n = min 100000 (up (c .before .before .before .before .before .before .before .before .before .before .before .before .before .before .before .before .before .before .before .before .before .before .before .args .self .limit))} (omega arith),
+      toZ-pos w32 {n = min 2_147_483_647 (up (c .before .before .before .before .before .before .before .before .before .before .before .before .before .before .before .before .before .before .before .before .before .before .before .args .self .limit))} (omega arith),
     )
 
 pub narrowed-spec : {M : Type 1} → statement M

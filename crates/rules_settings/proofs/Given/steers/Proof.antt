@@ -2,8 +2,8 @@
 use borrow.Author.Needs.{needs}
 use mir.Val.{SFits}
 use mir.Syntax.{w64}
-use Rattle.numbers.specs.Integers.{back}
-use Rattle.rules_settings.specs.Ranges.{steersIn}
+use Rattle.numbers.proofs.Integers.{back}
+use Rattle.rules_settings.specs.Ranges.{steersOf}
 use Rattle.rules_settings.proofs.Given.steers.Statement.{statement}
 use Rattle.rules_settings.proofs.Given.steers.Tie as tie
 
@@ -50,7 +50,7 @@ fits-limit : (c : tie.After-struct-told5) → SFits w64 (c .before .before .befo
 fits-limit c = search needs
 
 returns : tie.Need-returns
-unfolding steersIn
+unfolding steersOf
 returns c =
     rw (
       c .both4 .ensures,

@@ -2,8 +2,8 @@
 use borrow.Author.Needs.{needs}
 use mir.Val.{SFits}
 use mir.Syntax.{w64}
-use Rattle.numbers.specs.Integers.{back}
-use Rattle.rules_settings.specs.Ranges.{watchesIn}
+use Rattle.numbers.proofs.Integers.{back}
+use Rattle.rules_settings.specs.Ranges.{watchesOf}
 use Rattle.rules_settings.proofs.Given.watches.Statement.{statement}
 use Rattle.rules_settings.proofs.Given.watches.Tie as tie
 
@@ -65,7 +65,7 @@ fits-jump2 : (c : tie.After-struct-told8) → SFits w64 (c .before .before .befo
 fits-jump2 c = let g = c .struct-told8 .given .1 .1 .1 .1 .1 .1 in search needs
 
 returns : tie.Need-returns
-unfolding watchesIn
+unfolding watchesOf
 returns c =
     rw (
       c .both6 .ensures,

@@ -12,11 +12,12 @@ use lib.ListN.{length}
 use lib.Signed.{ltZ}
 use mir.Syntax.{w64}
 use mir.Val.{toZ, ofZ}
-use Rattle.numbers.specs.Integers.{back, back-pos, within-fits}
+use Rattle.numbers.proofs.Integers.{back, back-pos, within-fits}
+use Rattle.numbers.specs.Grounds.{firstOf}
 use Rattle.rules_fit.specs.Points.{Point, over, level, slope}
 use Rattle.rules_fit.proofs.Least.{count-is, over-above}
 use Rattle.rules_watch.specs.Settings.{leastOf}
-use Rattle.rules_watch.specs.Window.{held}
+use Rattle.rules_watch.specs.Window.{samplesIn}
 use Rattle.rules_watch.specs.Totals.{pointsOf}
 use Rattle.rules_watch.proofs.Points.{two}
 use Rattle.rules_watch.proofs.Watch.line.Statement.{statement}
@@ -27,7 +28,7 @@ module _ (c : tie.After-totals) where
   s = c .before .before .before .before
 
   abbrev pts : List Point
-  pts = pointsOf (held (s .args .self .window))
+  pts = pointsOf (samplesIn (s .args .self .window))
 
   n-is : c .totals .result .n ≡ pos (length pts)
   n-is = ap (λ t. t .n) (c .totals .ensures .0) ∙ count-is pts
@@ -37,6 +38,7 @@ module _ (c : tie.After-totals) where
   test least b h e = rw (back (within-fits (c .totals .ensures .1 .n) (lit< tt)), n-is, back-pos {n = least} (omega arith)) at e
 
 returns : tie.Need-returns
+unfolding firstOf
 returns c = simp (lt-leb _ _ (c .if1 .taken))
 
 totals-requires : tie.Need-totals-requires
@@ -60,16 +62,17 @@ enough c =
     omega (arith, ltb-false (length (pts (c .before .before .before .before))) (c .before .before .before .least .result) (test (c .before .before .before .before) (c .before .before .before .least .result) false (search needs) (c .if2 .left)))
 
 returns-2 : tie.Need-returns-2
+unfolding firstOf
 returns-2 c = simp (le-leb _ _ (c .before .before .before .before .before .if1 .left), lt-leb _ _ (few c))
 
 line-requires : tie.Need-line-requires
 unfolding over
 line-requires c κs =
     let d = c .before .before .before .before in
-    (d .totals .ensures .1, rw (d .totals .ensures .0) (over-above (pts d) (two (held (s d .args .self .window)) (omega (arith, enough c)))))
+    (d .totals .ensures .1, rw (d .totals .ensures .0) (over-above (pts d) (two (samplesIn (s d .args .self .window)) (omega (arith, enough c)))))
 
 returns-3 : tie.Need-returns-3
-unfolding over level slope
+unfolding firstOf over level slope
 returns-3 c =
     let d = c .before .before .before .before .before in
     simp (le-leb _ _ (c .before .before .before .before .before .before .if1 .left), le-leb _ _ (enough (c .before)), c .line .ensures, d .totals .ensures .0)

@@ -9,7 +9,7 @@ use lib.Signed.{leZ}
 use mir.Syntax.{w32, w64}
 use mir.Val.{SFits}
 use mir.Facts.{toZ-ofZ, sfits-widen}
-use Rattle.numbers.specs.Integers.{back}
+use Rattle.numbers.proofs.Integers.{back}
 use Rattle.rules_watch.proofs.Bounds.{second-fits}
 use Rattle.rules_watch.proofs.judging.follow.Statement.{statement}
 use Rattle.rules_watch.proofs.judging.follow.Tie as tie
@@ -41,7 +41,7 @@ apart-requires c κs = search needs
 returns-2 : tie.Need-returns-2
 returns-2 c =
     let z = c .before .before .before .before .before in
-    rw (above (c .before .before), le-leb 1000000000 (natAbs (Y z)) (omega (arith, size (c .before), c .if2 .taken)))
+    rw (above (c .before .before), le-leb 1_000_000_000 (natAbs (Y z)) (omega (arith, size (c .before), c .if2 .taken)))
 
 sub-y : tie.Need-sub-y
 sub-y c = let z = c .before .before .before .before .before in rw (back (z .fits .offset), back (z .fits .origin)) (sfits-widen tt (y-fits c))
@@ -59,7 +59,7 @@ returns-3 : tie.Need-returns-3
 returns-3 c =
     let z = c .before .before .before .before .before .before in
     let f = y-fits (c .before) in
-    rw (above (c .before .before .before), lt-leb 1000000000 (natAbs (Y z)) (omega (arith, size (c .before .before), c .before .if2 .left)))
+    rw (above (c .before .before .before), lt-leb 1_000_000_000 (natAbs (Y z)) (omega (arith, size (c .before .before), c .before .if2 .left)))
     (rw (back (z .fits .reference), back (z .fits .offset), back (z .fits .origin), back (sfits-widen tt f), toZ-ofZ f) at (c .settle .ensures))
 
 pub follow-spec : {M : Type 1} → statement M

@@ -9,8 +9,10 @@ use lib.IntN.{ℤ, pos, _-ℤ_}
 use lib.Signed.{ltZ, leZ}
 use mir.Syntax.{w64}
 use mir.Val.{SFits}
-use Rattle.numbers.specs.Integers.{back, up, dn, int, one-side, ltZ-false, leZ-false}
+use Rattle.numbers.specs.Integers.{up, dn}
+use Rattle.numbers.proofs.Integers.{back, int, one-side, ltZ-false, leZ-false}
 use Rattle.numbers.proofs.Ring.{v, _⊖_, fits-by}
+use Rattle.numbers.specs.Grounds.{firstOf}
 use Rattle.rules_watch.specs.Rules.{outsideOf, onLast}
 use Rattle.rules_watch.proofs.judging.judge.Statement.{statement}
 use Rattle.rules_watch.proofs.judging.judge.Tie as tie
@@ -50,19 +52,21 @@ outside-requires : tie.Need-outside-requires
 outside-requires c κs = search needs
 
 returns : tie.Need-returns
+unfolding firstOf
 returns c = rw (first (c .before) true (c .if1 .taken))
 
 outside-requires-2 : tie.Need-outside-requires-2
 outside-requires-2 c κs = search needs
 
 returns-2 : tie.Need-returns-2
+unfolding firstOf
 returns-2 c = rw (first (c .before .before .before) false (c .before .before .if1 .left), second (c .before) true (c .if2 .taken))
 
 sub-offset : tie.Need-sub-offset
 sub-offset c = rw (back (s c .fits .clock), back (s c .fits .reference)) (offset-fits c)
 
 returns-3 : tie.Need-returns-3
-unfolding onLast
+unfolding firstOf onLast
 returns-3 c =
     let d = c .before in
     rw (reference-in d, clock-in d, c .if3 .taken, back (s d .fits .clock), back (s d .fits .reference), back (offset-fits d))
@@ -73,7 +77,7 @@ follow-requires c κs =
     rw (back (s d .fits .reference)) (omega (int, inside (s d .args .reference) (reference-in d)))
 
 returns-4 : tie.Need-returns-4
-unfolding onLast
+unfolding firstOf onLast
 returns-4 c =
     let d = c .before .before in
     rw (reference-in d, clock-in d, c .before .if3 .left)

@@ -9,7 +9,7 @@ use lib.IntN.{ℤ, pos, natAbs, _-ℤ_}
 use lib.Signed.{ltZ}
 use mir.Syntax.{w64}
 use mir.Val.{SFits}
-use Rattle.numbers.specs.Integers.{back, fits→, ltZ-true, ltZ-false, abs-parts, one-side}
+use Rattle.numbers.proofs.Integers.{back, fits→, ltZ-true, ltZ-false, abs-parts, one-side}
 use Rattle.numbers.proofs.Ring.{v, _⊖_, rep}
 use Rattle.rules_watch.proofs.stamps.apart.Statement.{statement}
 use Rattle.rules_watch.proofs.stamps.apart.Tie as tie

@@ -1,5 +1,5 @@
 -- `outside` meets its contract.
-use Rattle.numbers.specs.Integers.{back}
+use Rattle.numbers.proofs.Integers.{back}
 use Rattle.rules_watch.proofs.stamps.outside.Statement.{statement}
 use Rattle.rules_watch.proofs.stamps.outside.Tie as tie
 

@@ -5,7 +5,7 @@ use borrow.Author.Needs.{needs}
 use mir.Syntax.{w32}
 use mir.Val.{SFits}
 use mir.Facts.{toZ-ofZ}
-use Rattle.rules_watch.specs.Totals.{withSample}
+use Rattle.rules_watch.specs.Inner.{withSample}
 use Rattle.rules_watch.proofs.Bounds.{over-room, over-sample}
 use Rattle.rules_watch.proofs.window.add_valid.Statement.{statement}
 use Rattle.rules_watch.proofs.window.add_valid.Tie as tie

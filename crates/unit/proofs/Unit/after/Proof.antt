@@ -1,4 +1,4 @@
--- `Card::after` meets its contract.
+-- `Unit::after` meets its contract.
 use borrow.Author.Needs.{needs}
 use Rattle.unit.proofs.Unit.after.Statement.{statement}
 use Rattle.unit.proofs.Unit.after.Tie as tie

@@ -1,4 +1,4 @@
--- `Card::fresh` meets its contract.
+-- `Unit::fresh` meets its contract.
 use borrow.Author.Needs.{needs}
 use Rattle.unit.proofs.Unit.fresh.Statement.{statement}
 use Rattle.unit.proofs.Unit.fresh.Tie as tie

@@ -1,4 +1,4 @@
--- `Card::receive` meets its contract.
+-- `Unit::receive` meets its contract.
 use Rattle.wire_layout.specs.declared.message.Body.the-variants.{Announce}
 use mathlib.Core.Path.{_∙_}
 use Rattle.unit_core.specs.declared.calls.Call.the-variants.{Receive}

@@ -1,7 +1,7 @@
--- `Card::step` meets its contract.
+-- `Unit::step` meets its contract.
 use mir.Syntax.{w64}
 use mir.Val.{SFits}
-use Rattle.numbers.specs.Integers.{back}
+use Rattle.numbers.proofs.Integers.{back}
 use mathlib.Core.Path.{_∙_}
 use Rattle.unit_core.specs.declared.calls.Call.the-variants.{Request, Sent, Time}
 use Rattle.unit.proofs.Fairly.{fair, put-call}
@@ -54,8 +54,8 @@ after-requires-4 c κs = search needs
 enum-known-call-5 : tie.Need-enum-known-call-5
 enum-known-call-5 c = search needs
 
-tick-requires : tie.Need-tick-requires
-tick-requires c κs = search needs
+pulse-requires : tie.Need-pulse-requires
+pulse-requires c κs = search needs
 
 enum-told-2 : tie.Need-enum-told-2
 enum-told-2 c = search needs
@@ -110,7 +110,7 @@ fits-clock : (c : tie.After-known-told5) → SFits w64 (c .before .call5 .given 
 fits-clock c = search needs
 
 returns-6 : tie.Need-returns-6
-returns-6 c = rw (c .before .before .call5 .given .1) (rw (back (fits-reference (c .before)), back (fits-clock (c .before))) at (c .tick .ensures))
+returns-6 c = rw (c .before .before .call5 .given .1) (rw (back (fits-reference (c .before)), back (fits-clock (c .before))) at (c .pulse .ensures))
 
 returns-7 : tie.Need-returns-7
 returns-7 c = rw (c .before .before .enum-told2 .given .1) (c .says .ensures ∙ rw (c .before .line .ensures))
@@ -137,7 +137,7 @@ step-spec =
     reset-requires
     after-requires-4
     enum-known-call-5
-    tick-requires
+    pulse-requires
     enum-told-2
     line-requires
     says-requires

@@ -1,4 +1,4 @@
--- `Unit::fresh` meets its contract.
+-- `Core::fresh` meets its contract.
 use borrow.Author.Needs.{needs}
 use Rattle.unit_core.proofs.Core.fresh.Statement.{statement}
 use Rattle.unit_core.proofs.Core.fresh.Tie as tie

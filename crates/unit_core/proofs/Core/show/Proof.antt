@@ -1,4 +1,4 @@
--- `Unit::show` meets its contract.
+-- `Core::show` meets its contract.
 use borrow.Author.Needs.{needs}
 use Rattle.unit_core.proofs.Core.show.Statement.{statement}
 use Rattle.unit_core.proofs.Core.show.Tie as tie

@@ -33,23 +33,23 @@ add-u16-at c = search needs
 u16-at-requires : tie.Need-u16-at-requires
 u16-at-requires c κs = search needs
 
-wide-requires : tie.Need-wide-requires
-wide-requires c κs = search needs
+cast-n : tie.Need-cast-n
+cast-n c = search needs
 
 returns-3 : tie.Need-returns-3
 returns-3 c =
-    let s = c .before .before .before .before .before .before in
+    let s = c .before .before .before .before .before in
     let t = now (s .args .t) in
     let at = s .args .at in
-    let n = c .before .wide .ensures ∙ c .before .before .u16-at .ensures ∙ sym (num-drop 2 2 at t) in
+    let n = c .before .u16-at .ensures ∙ sym (num-drop 2 2 at t) in
     sym (t-odd (drop at t) (rw length-drop (omega arith)) (rw n at (c .if3 .taken)))
 
 returns-4 : tie.Need-returns-4
 returns-4 c =
-    let s = c .before .before .before .before .before .before .before in
+    let s = c .before .before .before .before .before .before in
     let t = now (s .args .t) in
     let at = s .args .at in
-    let n = c .before .before .wide .ensures ∙ c .before .before .before .u16-at .ensures ∙ sym (num-drop 2 2 at t) in
+    let n = c .before .before .u16-at .ensures ∙ sym (num-drop 2 2 at t) in
     let l : length (drop at t) ≡ length t - at = length-drop at t in
     sym (t-long (drop at t) (rw l (omega arith)) (rw n at (c .before .if3 .left)) (rw l (rw n at (c .if4 .taken))))
 
@@ -58,10 +58,10 @@ u16-at-requires-2 c κs = search needs
 
 returns-5 : tie.Need-returns-5
 returns-5 c =
-    let s = c .before .before .before .before .before .before .before .before in
+    let s = c .before .before .before .before .before .before .before in
     let t = now (s .args .t) in
     let at = s .args .at in
-    let n = c .before .before .before .wide .ensures ∙ c .before .before .before .before .u16-at .ensures ∙ sym (num-drop 2 2 at t) in
+    let n = c .before .before .before .u16-at .ensures ∙ sym (num-drop 2 2 at t) in
     let k : c .u16-at2 .result ≡ num 2 0 (drop at t) = rw (num-drop 2 0 at t, add-zero) (c .u16-at2 .ensures) in
     let l : length (drop at t) ≡ length t - at = length-drop at t in
     (λ i. Whole (k i) (n i)) ∙ sym (t-whole (drop at t) (rw l (omega arith)) (rw n at (c .before .before .if3 .left)) (rw l (rw n at (c .before .if4 .left))))
@@ -75,7 +75,7 @@ tlv-at-spec =
     returns-2
     add-u16-at
     u16-at-requires
-    wide-requires
+    cast-n
     returns-3
     returns-4
     u16-at-requires-2

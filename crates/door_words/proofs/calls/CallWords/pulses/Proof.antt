@@ -4,7 +4,7 @@ use borrow.Author.Tests.{ne-eqb}
 use borrow.Author.Needs.{needs}
 use mir.Val.{SFits}
 use mir.Syntax.{w64}
-use Rattle.numbers.specs.Integers.{back}
+use Rattle.numbers.proofs.Integers.{back}
 use Rattle.door_words.proofs.calls.CallWords.pulses.Statement.{statement}
 use Rattle.door_words.proofs.calls.CallWords.pulses.Tie as tie
 

@@ -2,7 +2,8 @@
 use mathlib.Core.Path.{_≡_, refl}
 use mathlib.Core.Bool.{Bool, true, false, cond}
 use Rattle.rules_exchange.specs.declared.halves.Sync.{Sync}
-use Rattle.rules_exchange.specs.Halves.{syncHalf, ready, knows, awaits}
+use Rattle.rules_exchange.specs.Halves.{syncHalf, knows, awaits}
+use Rattle.rules_exchange.specs.Inner.{ready}
 use Rattle.rules_exchange.proofs.halves.Sync.complete.Statement.{statement}
 use Rattle.rules_exchange.proofs.halves.Sync.complete.Tie as tie
 

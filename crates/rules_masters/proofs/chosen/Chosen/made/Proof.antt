@@ -1,4 +1,4 @@
--- masters::chosen::Chosen::made meets its contract.
+-- rules_masters::chosen::Chosen::made meets its contract.
 use borrow.Author.Needs.{needs}
 use Rattle.rules_masters.proofs.chosen.Chosen.made.Statement.{statement}
 use Rattle.rules_masters.proofs.chosen.Chosen.made.Tie as tie

@@ -1,4 +1,4 @@
--- masters::record::Record::fresh meets its contract.
+-- rules_masters::record::Record::fresh meets its contract.
 use borrow.Author.Needs.{needs}
 use Rattle.rules_masters.proofs.record.Record.fresh.Statement.{statement}
 use Rattle.rules_masters.proofs.record.Record.fresh.Tie as tie

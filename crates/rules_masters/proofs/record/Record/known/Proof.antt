@@ -1,4 +1,4 @@
--- masters::record::Record::known meets its contract.
+-- rules_masters::record::Record::known meets its contract.
 use mathlib.Core.Path.{sym, _∙_}
 use borrow.Author.Needs.{needs}
 use Rattle.rules_masters.specs.Records.{knownOf}

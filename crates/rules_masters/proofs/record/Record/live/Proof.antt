@@ -1,4 +1,4 @@
--- masters::record::Record::live meets its contract.
+-- rules_masters::record::Record::live meets its contract.
 use borrow.Author.Needs.{needs}
 use borrow.Author.Tests.{le-leb, lt-leb}
 use Rattle.rules_masters.specs.Records.{liveOf}

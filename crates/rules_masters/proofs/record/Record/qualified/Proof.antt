@@ -1,4 +1,4 @@
--- masters::record::Record::qualified meets its contract.
+-- rules_masters::record::Record::qualified meets its contract.
 use mathlib.Core.Path.{sym, _∙_}
 use borrow.Author.Needs.{needs}
 use borrow.Author.Tests.{le-leb, lt-leb}

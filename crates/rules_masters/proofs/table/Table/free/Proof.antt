@@ -1,4 +1,4 @@
--- masters::table::Table::free meets its contract. The loop's invariant: every place passed is live.
+-- rules_masters::table::Table::free meets its contract. The loop's invariant: every place passed is live.
 use mathlib.Core.Path.{_≡_, sym, ap, _∙_}
 use mathlib.Core.Bool.{not}
 use Prim.Native.Nat.{_≤_, _-_}

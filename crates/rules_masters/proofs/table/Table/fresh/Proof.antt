@@ -1,4 +1,4 @@
--- masters::table::Table::fresh meets its contract.
+-- rules_masters::table::Table::fresh meets its contract.
 use borrow.Author.Needs.{needs}
 use Rattle.rules_masters.proofs.table.Table.fresh.Statement.{statement}
 use Rattle.rules_masters.proofs.table.Table.fresh.Tie as tie

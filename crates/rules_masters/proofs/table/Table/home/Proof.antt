@@ -1,4 +1,4 @@
--- masters::table::Table::home meets its contract. The loop's invariant: no place passed is the sender's, and live.
+-- rules_masters::table::Table::home meets its contract. The loop's invariant: no place passed is the sender's, and live.
 use mathlib.Core.Path.{_≡_, sym, _∙_}
 use Prim.Native.Nat.{_≤_, _-_}
 use native.Mathlib.Omega.{arith}

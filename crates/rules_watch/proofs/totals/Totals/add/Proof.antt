@@ -7,7 +7,8 @@ use lib.IntN.{pos}
 use mir.Syntax.{w32, w64}
 use mir.Val.{toZ, ofZ}
 use mir.Facts.{toZ-ofZ, sfits-widen}
-use Rattle.numbers.specs.Integers.{Within, back-pos}
+use Rattle.numbers.specs.Integers.{Within}
+use Rattle.numbers.proofs.Integers.{back-pos}
 use Rattle.numbers.proofs.Straight.{Env, end, _▸_, var, raw, lit, add, mul, asks, run}
 use Rattle.rules_watch.proofs.Bounds.{i32-within}
 use Rattle.rules_watch.proofs.totals.Totals.add.Statement.{statement}
@@ -23,10 +24,10 @@ module _ (s : tie.Start) where
   x-within : Within 127 (toZ w64 (s .args .x .0))
   x-within = rw x-is (omega arith)
 
-  y-within : Within 2147483648 (toZ w32 (ofZ w32 (s .args .y)))
+  y-within : Within 2_147_483_648 (toZ w32 (ofZ w32 (s .args .y)))
   y-within = rw y-is (i32-within (s .fits .y))
 
-  env : Env (127 ∷ 16129 ∷ 2048383 ∷ 272730423296 ∷ 34636763758592 ∷ 127 ∷ 2147483648 ∷ []) (s .args .self .n ∷ s .args .self .x ∷ s .args .self .xx ∷ s .args .self .y ∷ s .args .self .xy ∷ toZ w64 (s .args .x .0) ∷ toZ w32 (ofZ w32 (s .args .y)) ∷ [])
+  env : Env (127 ∷ 16_129 ∷ 2_048_383 ∷ 272_730_423_296 ∷ 34_636_763_758_592 ∷ 127 ∷ 2_147_483_648 ∷ []) (s .args .self .n ∷ s .args .self .x ∷ s .args .self .xx ∷ s .args .self .y ∷ s .args .self .xy ∷ toZ w64 (s .args .x .0) ∷ toZ w32 (ofZ w32 (s .args .y)) ∷ [])
   env = let o = s .pre .1 in o .n ▸ o .x ▸ o .xx ▸ o .y ▸ o .xy ▸ x-within ▸ y-within ▸ end
 
 cast-x : tie.Need-cast-x

@@ -4,13 +4,13 @@ use Prim.Native.Nat.{_<_, _^_}
 use lib.IntN.{ℤ, pos, natAbs, _*ℤ_}
 use Rattle.numbers.proofs.Straight.{Env, var, mul, asks, run}
 use Rattle.rules_fit.proofs.Quotient.{below, quotient}
-use Rattle.rules_watch.specs.Totals.{overOf, slopeOf}
+use Rattle.rules_watch.specs.Inner.{overOf, slopeOf}
 use Rattle.rules_watch.proofs.Bounds.{env, level, slope, over, thousand, slope-below, thousand-below, thousand-above}
 use Rattle.rules_watch.proofs.totals.Totals.line.Statement.{statement}
 use Rattle.rules_watch.proofs.totals.Totals.line.Tie as tie
 
 module _ (s : tie.Start) where
-  abbrev bounds : Env (128 ∷ 16256 ∷ 2064512 ∷ 274877906944 ∷ 34909494181888 ∷ []) (s .args .self .n ∷ s .args .self .x ∷ s .args .self .xx ∷ s .args .self .y ∷ s .args .self .xy ∷ [])
+  abbrev bounds : Env (128 ∷ 16_256 ∷ 2_064_512 ∷ 274_877_906_944 ∷ 34_909_494_181_888 ∷ []) (s .args .self .n ∷ s .args .self .x ∷ s .args .self .xx ∷ s .args .self .y ∷ s .args .self .xy ∷ [])
   bounds = env (s .args .self) (s .pre .0)
 
   slope-small : natAbs (slopeOf (s .args .self)) < 2 ^ 53

@@ -4,8 +4,9 @@ use Prim.Native.Nat.{ℕ, _-_, _%_, _≤_}
 use native.Mathlib.Omega.{arith}
 use borrow.Author.Needs.{needs}
 use lib.ListN.{length, drop, length-map}
-use Rattle.rules_watch.specs.Window.{lastN, rot, held, blank}
-use Rattle.rules_watch.specs.Totals.{none, Over, totalsOf, pointsOf}
+use Rattle.rules_watch.specs.Window.{lastN, rot, samplesIn, blank}
+use Rattle.rules_watch.specs.Totals.{pointsOf}
+use Rattle.rules_watch.specs.Inner.{noTotals, Over, totalsOf}
 use Rattle.rules_watch.proofs.Bounds.{over-none, over-room}
 use Rattle.rules_watch.proofs.Ring.{length-last, last-at}
 use Rattle.rules_watch.proofs.Sums.{sumFrom, sum-all, sum-turn, sum-end}
@@ -13,7 +14,7 @@ use Rattle.rules_watch.proofs.window.Window.totals.Statement.{statement
 use Rattle.rules_watch.proofs.window.Window.totals.Tie as tie
 
 abbrev Inv-loop : tie.InvT-loop
-Inv-loop samples next len sum₀ k₀ sum k = (k ≤ len) × (Over k sum) × (sumFrom k sum (drop k (lastN len (rot next samples))) ≡ sumFrom 0 none (lastN len (rot next samples)))
+Inv-loop samples next len sum₀ k₀ sum k = (k ≤ len) × (Over k sum) × (sumFrom k sum (drop k (lastN len (rot next samples))) ≡ sumFrom 0 noTotals (lastN len (rot next samples)))
 
 abbrev μ-loop : tie.MeasureT-loop
 μ-loop samples next len sum₀ k₀ sum k = len - k
@@ -77,7 +78,7 @@ loop-again c =
     (omega arith, c .add-valid .ensures .1, rw (c .add-valid .ensures .0) (rw here at (sym (sum-turn (a .loop .k) (a .loop .sum) l (omega (arith, long))) ∙ a .loop .inv .2)))
 
 returns : tie.Need-returns Inv-loop μ-loop
-unfolding held
+unfolding samplesIn
 returns c =
     let w = c .before .before .before .before .before .before .args .self in
     let n = w .next % 128 in

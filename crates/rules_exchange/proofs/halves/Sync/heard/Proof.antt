@@ -1,0 +1,17 @@
+-- By the kind of Sync.
+use Rattle.numbers.proofs.Integers.{back}
+use Rattle.rules_exchange.proofs.halves.Sync.heard.Statement.{statement}
+use Rattle.rules_exchange.proofs.halves.Sync.heard.Tie as tie
+
+returns : tie.Need-returns
+returns c = rw (c .if1 .taken, back (c .before .fits .correction))
+
+returns-2 : tie.Need-returns-2
+returns-2 c = rw (c .if1 .left, back (c .before .fits .correction))
+
+pub heard-spec : {M : Type 1} → statement M
+heard-spec =
+    tie.close
+    (tie.spec
+    returns
+    returns-2)

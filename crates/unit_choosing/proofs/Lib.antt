@@ -1,0 +1,2 @@
+-- What the calls that choose cite.
+mod Unrefused

@@ -1,0 +1,5 @@
+pub mod Measuring
+pub mod Hearing
+pub mod Asking
+pub mod Frame
+pub mod Inner

@@ -1,0 +1,79 @@
+// A received message other than an Announce: what bars it, and what the exchange is told.
+ghost use mathlib.Core.Path.{_≡_};
+ghost use Rattle.numbers.specs.Grounds.{firstOf};
+ghost use Rattle.unit_core.specs.Effects.{staysOf, progressOf, movedBy};
+ghost use Rattle.unit_measuring.specs.Hearing.{twoStepIn, hears};
+ghost use Rattle.unit_measuring.specs.Inner.{messageGrounds, handed};
+use crate::barred;
+use crate::exchanged;
+use numbers::refusal::Refusal;
+use numbers::ruling::Ruling;
+use numbers::stamp::Stamp;
+use rules_exchange::Answered;
+use rules_exchange::Exchange;
+use rules_exchange::refusals;
+use rules_servo::Servo;
+use unit_core::Core;
+use unit_core::Moved;
+use wire_layout::message::Body;
+use wire_layout::message::Header;
+use wire_layout::message::Message;
+use wire_layout::message::Port;
+
+// Bit 1 of octet 6 is bit 9 of the two octets of flags.
+fn two_step(header: Header) -> bool
+    ensures { λ r. ⌜ r ≡ twoStepIn header ⌝ }
+{
+    header.flags / 512 % 2 == 1
+}
+
+// A message is handed to the exchange, which knows three kinds.
+fn hand(held: Exchange, own: Port, t2: Stamp, m: Message) -> Answered
+    ensures { λ r. ⌜ r ≡ handed held own t2 (m .header) (m .body) ⌝ }
+{
+    let header = m.header;
+    let body = m.body;
+    match body {
+        Body::Sync(t1) => {
+            held.sync(two_step(header), header.sequence, header.correction, t1, t2)
+        }
+        Body::FollowUp(t1) => held.follow_up(header.sequence, header.correction, t1),
+        Body::DelayResp(t4, requester) => {
+            held.delay_resp(header.sequence, header.correction, t4, requester, own)
+        }
+        _ => Answered {
+            answer: rules_exchange::Answer::Refused(Refusal::Kind),
+            exchange: held,
+        },
+    }
+}
+
+// 3 of a kind that is not heard, before all else; then those that come before the exchange's own. Only a Sync has a t2.
+fn message_barred(core: Core, now: u64, t2: Stamp, header: Header, body: Body) -> Ruling
+    ensures { λ r. ⌜ r ≡ firstOf (messageGrounds (core .settings) (staysOf core) now t2 header body) ⌝ }
+{
+    let chosen = core.domain.chosen;
+    let domain = header.domain != core.settings.domain;
+    let master = !chosen.is_master(header.source);
+    match body {
+        Body::Sync(_) => barred(core, now, refusals::field(t2), domain, master),
+        Body::FollowUp(_) => barred(core, now, false, domain, master),
+        Body::DelayResp(_, _) => barred(core, now, false, domain, master),
+        _ => Ruling::Barred(Refusal::Kind),
+    }
+}
+
+// A read message, its arrival stamped t2. A Delay_Req is no message for a slave, and an Announce is handed over with the table.
+pub fn heard(core: Core, servo: Servo, now: u64, t2: Stamp, m: Message) -> Moved
+    ensures { λ r. ⌜ r ≡ movedBy core servo (hears (core .settings) (staysOf core) (progressOf core servo) now t2 (m .header) (m .body)) ⌝ }
+{
+    let header = m.header;
+    let body = m.body;
+    match message_barred(core, now, t2, header, body) {
+        Ruling::Barred(number) => core.refuse(servo, number),
+        Ruling::Clear => {
+            let held = core.domain.run.exchange;
+            exchanged(core, servo, now, hand(held, core.settings.own, t2, m))
+        }
+    }
+}

@@ -1,0 +1,2 @@
+-- What is proved of a second pulse.
+pub mod Pulses

@@ -1,0 +1,44 @@
+#!/usr/bin/env bash
+# Tries wrong rules that are put into the code and into the definitions of its contract alike: the crates below prove them, and the
+# story, which is told from the calls and answers alone, must refuse. Each takes some minutes.
+# Usage: scripts/wrong-rules.sh
+# Needs the kit (rt, or what RT names). What target/ has proved is not proved again. Status 1 where the story does not refuse.
+set -euo pipefail
+cd "$(dirname "$0")/.."
+work=$(mktemp -d)
+trap 'rm -rf "$work"' EXIT
+
+# try NAME PROVED REFUSED FILE OLD NEW [FILE OLD NEW ..]: with each OLD, found once in its FILE, made NEW, the crate PROVED is proved and
+# REFUSED is not.
+try() {
+  local name=$1 proved=$2 refused=$3
+  shift 3
+  rm -rf "$work/tree"
+  mkdir "$work/tree"
+  cp -r crates crates.txt "$work/tree"
+  [ ! -d target ] || cp -r target "$work/tree"
+  while [ $# -gt 0 ]; do
+    OLD=$2 NEW=$3 perl -0pi -e 'BEGIN { $n = 0 } $n += s/\Q$ENV{OLD}\E/$ENV{NEW}/g; END { exit($n != 1) }' "$work/tree/crates/$1" ||
+      { echo "wrong-rules: $name: '$2' is not there once in crates/$1" >&2; return 1; }
+    shift 3
+  done
+  (cd "$work/tree" && "${RT:-rt}" check "$proved" >"$work/log" 2>&1) || { echo "wrong-rules: $name: $proved is not proved" >&2; grep ': error' "$work/log" | head -3 >&2; return 1; }
+  if (cd "$work/tree" && "${RT:-rt}" check "$refused" >"$work/log" 2>&1); then
+    echo "wrong-rules: $name: $refused is proved, and must not be" >&2
+    return 1
+  fi
+  grep -q "^rt: $refused NOT PROVED (" "$work/log" || { echo "wrong-rules: $name: a crate below $refused failed" >&2; return 1; }
+  echo "$name: $proved proved, $refused refuses: $(grep -m1 -o "crates/$refused/.*: error: .*" "$work/log" | cut -c1-120)"
+}
+
+try sequence_of_65535 unit story \
+  unit_measuring/src/asking.rt '% 65_536) as u16' '% 65_535) as u16' \
+  unit_measuring/specs/Asking.antt '(k .sequence + 1) % 2 ^ 16' '(k .sequence + 1) % 65535'
+try one_step_correction_twice rules_exchange story_exchange \
+  rules_exchange/src/halves.rt 'follow: 0,
+        };
+        if two_step {' 'follow: correction,
+        };
+        if two_step {
+            sync.follow = 0;' \
+  rules_exchange/specs/Halves.antt 'knows n t1 t2 c (pos 0)' 'knows n t1 t2 c c'

@@ -60,10 +60,10 @@ fn digit(b: u8) -> u64 {
     if b'9' < b {
         return 10;
     }
-    wide(b - b'0')
+    octet_value(b - b'0')
 }
 
-fn wide(b: u8) -> u64 {
+fn octet_value(b: u8) -> u64 {
     b as u64
 }
 
@@ -230,7 +230,7 @@ pub(crate) fn identity(s: &[u8], at: usize) -> Word64 {
                 next: NOWHERE,
             };
         }
-        value = (value << 4) | wide(d);
+        value = (value << 4) | octet_value(d);
         i += 1;
         left -= 1;
     }

@@ -3,6 +3,7 @@ use mathlib.Core.List.{List, [], _∷_}
 use Prim.Native.Nat.{ℕ}
 use lib.IntN.{ℤ, pos}
 use Rattle.numbers.specs.declared.stamp.Stamp.{Stamp}
+use Rattle.numbers.specs.Stamps.{noStamp}
 use Rattle.wire_layout.specs.declared.message.Message.{Message}
 use Rattle.rules_masters.specs.declared.record.Record.{Record}
 use Rattle.rules_masters.specs.Records.{freshRecord}
@@ -18,7 +19,7 @@ use Rattle.unit.specs.declared.Unit.{Unit}
 use Rattle.door_words.specs.declared.messages.MessageWords.{MessageWords}
 use Rattle.door_words.specs.declared.answers.AnswerWords.{AnswerWords}
 use Rattle.door_words.specs.declared.calls.CallWords.{CallWords}
-use Rattle.door_words.specs.Messages.{noStamp, refusedWords, gotWords}
+use Rattle.door_words.specs.Messages.{refusedWords, gotWords}
 use Rattle.door_steps.specs.declared.Pulsed.{Pulsed}
 use Rattle.door_steps.specs.declared.Requested.{Requested}
 use Rattle.door_steps.specs.Steps.{pulseOf, requestedOf}

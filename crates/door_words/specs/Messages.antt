@@ -5,6 +5,7 @@ use Prim.Native.Nat.{ℕ}
 use lib.Dec.{eqb}
 use lib.ListN.{length}
 use Rattle.numbers.specs.declared.stamp.Stamp.{Stamp}
+use Rattle.numbers.specs.Stamps.{noStamp}
 use Rattle.numbers.specs.declared.refusal.Refusal.the-variants.{Kind}
 use Rattle.numbers.specs.Refusals.{numberOf}
 use Rattle.wire_layout.specs.declared.message.Port.{Port}
@@ -27,9 +28,6 @@ use Rattle.door_words.specs.declared.messages.Handed.{Handed}
 use Rattle.door_words.specs.declared.messages.Handed.the-variants.{Got, Barred}
 
 -- ---- to numbers
-abbrev pub noStamp : Stamp
-noStamp = record { seconds = 0; nanoseconds = 0 }
-
 abbrev pub noPort : Port
 noPort = record { clock = 0; number = 0 }
 

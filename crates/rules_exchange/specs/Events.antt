@@ -6,7 +6,7 @@ use lib.Dec.{leb, ltb}
 use lib.IntN.{ℤ, pos, natAbs, _+ℤ_, _-ℤ_}
 use Rattle.numbers.specs.Grounds.{Ground, firstOf}
 use Rattle.numbers.specs.Orders.{ofExchange}
-use Rattle.numbers.specs.Stamps.{soundOf, belowOf}
+use Rattle.numbers.specs.Stamps.{noStamp, soundOf, belowOf}
 use Rattle.numbers.specs.declared.stamp.Stamp.{Stamp}
 use Rattle.numbers.specs.declared.refusal.Refusal.{Refusal}
 use Rattle.numbers.specs.declared.refusal.Refusal.the-variants.{Unmatched}
@@ -21,7 +21,7 @@ use Rattle.rules_exchange.specs.declared.said.Said.the-variants.{Back, N
 use Rattle.rules_measure.specs.declared.Sum.{Sum}
 use Rattle.rules_measure.specs.declared.Sum.the-variants.{Delay, Neg as SumNeg, Long as SumLong}
 use Rattle.rules_delays.specs.Delays.{freshDelays, pathOf, usedOf, filtered}
-use Rattle.rules_exchange.specs.Halves.{SyncHalf, RequestHalf, noStamp, freshSync, freshRequest, asSync, asRequest, syncHalf, requestHalf}
+use Rattle.rules_exchange.specs.Halves.{SyncHalf, RequestHalf, freshSync, freshRequest, asSync, asRequest, syncHalf, requestHalf}
 use Rattle.rules_measure.specs.Measure.{ns, sumOf, hugeOf, isStep}
 use Rattle.rules_exchange.specs.Table.{Event, sync, followUp, requested, sent, delayResp, Row, unmatched, syncIs, requestIs, measures, rowBy}
 

@@ -3,6 +3,7 @@ use mathlib.Core.Bool.{Bool, true, false, cond}
 use Prim.Native.Nat.{ℕ}
 use lib.IntN.{ℤ, pos}
 use Rattle.numbers.specs.declared.stamp.Stamp.{Stamp}
+use Rattle.numbers.specs.Stamps.{noStamp}
 use Rattle.rules_exchange.specs.declared.halves.Sync.{Sync}
 use Rattle.rules_exchange.specs.declared.halves.Request.{Request}
 
@@ -34,9 +35,6 @@ unfoldable pub requestHalf : Request → RequestHalf
 requestHalf r = cond (r .pending) (cond (r .given) (stamped (r .sequence) (r .t3)) (asked (r .sequence))) noRequest
 
 -- and kept in it: what is not there is 0
-abbrev pub noStamp : Stamp
-noStamp = record { seconds = 0; nanoseconds = 0 }
-
 abbrev pub asSync : SyncHalf → Sync
 asSync noSync = record { held = false; known = false; sequence = 0; t1 = noStamp; t2 = noStamp; correction = pos 0; follow = pos 0 }
 asSync (awaits n t2 c) = record { held = true; known = false; sequence = n; t1 = noStamp; t2 = t2; correction = c; follow = pos 0 }

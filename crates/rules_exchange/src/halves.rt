@@ -33,10 +33,7 @@ impl Sync {
     pub fn fresh() -> Sync
         ensures { λ r. ⌜ r ≡ freshSync ⌝ }
     {
-        let none = Stamp {
-            seconds: 0,
-            nanoseconds: 0,
-        };
+        let none = Stamp::zero();
         Sync {
             held: false,
             known: false,
@@ -68,12 +65,8 @@ impl Sync {
             follow: 0,
         };
         if two_step {
-            let none = Stamp {
-                seconds: 0,
-                nanoseconds: 0,
-            };
             sync.known = false;
-            sync.t1 = none;
+            sync.t1 = Stamp::zero();
             return sync;
         }
         sync
@@ -107,15 +100,11 @@ impl Request {
     pub fn fresh() -> Request
         ensures { λ r. ⌜ r ≡ freshRequest ⌝ }
     {
-        let none = Stamp {
-            seconds: 0,
-            nanoseconds: 0,
-        };
         Request {
             pending: false,
             given: false,
             sequence: 0,
-            t3: none,
+            t3: Stamp::zero(),
         }
     }
 

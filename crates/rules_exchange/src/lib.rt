@@ -76,13 +76,9 @@ impl Exchange {
     pub fn fresh() -> Exchange
         ensures { λ r. ⌜ r ≡ freshExchange ⌝ }
     {
-        let stamp = Stamp {
-            seconds: 0,
-            nanoseconds: 0,
-        };
         let last = Last {
             taken: false,
-            stamp,
+            stamp: Stamp::zero(),
         };
         Exchange {
             sync: Sync::fresh(),
@@ -255,15 +251,11 @@ impl Exchange {
     pub fn request(mut self, sequence: u16) -> Answered
         ensures { λ r. ⌜ r ≡ told self (requested sequence) ⌝ }
     {
-        let t3 = Stamp {
-            seconds: 0,
-            nanoseconds: 0,
-        };
         let request = Request {
             pending: true,
             given: false,
             sequence,
-            t3,
+            t3: Stamp::zero(),
         };
         self.request = request;
         self.say(Said::Asked(sequence))

@@ -104,10 +104,7 @@ impl Record {
         ensures { λ r. ⌜ r ≡ freshRecord ⌝ }
     {
         let header = no_header();
-        let stamp = Stamp {
-            seconds: 0,
-            nanoseconds: 0,
-        };
+        let stamp = Stamp::zero();
         let offer = no_offer();
         let announce = Announce {
             header,

@@ -30,8 +30,8 @@ nibble-requires c κs = tt
 returns-2 : tie.Need-returns-2 Inv-loop μ-loop
 returns-2 c = tt
 
-wide-requires : tie.Need-wide-requires Inv-loop μ-loop
-wide-requires c κs = tt
+octet-value-requires : tie.Need-octet-value-requires Inv-loop μ-loop
+octet-value-requires c κs = tt
 
 add-i : tie.Need-add-i Inv-loop μ-loop
 add-i c = omega arith
@@ -61,7 +61,7 @@ identity-spec =
     lower-requires
     nibble-requires
     returns-2
-    wide-requires
+    octet-value-requires
     add-i
     sub-left
     loop-less

@@ -3,6 +3,9 @@ use borrow.Author.Needs.{needs}
 use Rattle.rules_exchange.proofs.Exchange.fresh.Statement.{statement}
 use Rattle.rules_exchange.proofs.Exchange.fresh.Tie as tie
 
+zero-requires : tie.Need-zero-requires
+zero-requires c κs = search needs
+
 fresh-requires : tie.Need-fresh-requires
 fresh-requires c κs = search needs
 
@@ -13,7 +16,7 @@ fresh-requires-3 : tie.Need-fresh-requires-3
 fresh-requires-3 c κs = search needs
 
 returns : tie.Need-returns
-returns c = rw (c .before .before .fresh .ensures, c .before .fresh2 .ensures, c .fresh3 .ensures)
+returns c = rw (c .before .before .before .zero .ensures, c .before .before .fresh .ensures, c .before .fresh2 .ensures, c .fresh3 .ensures)
 
 pub fresh-spec : {M : Type 1} → statement M
-fresh-spec = tie.close (tie.spec fresh-requires fresh-requires-2 fresh-requires-3 returns)
+fresh-spec = tie.close (tie.spec zero-requires fresh-requires fresh-requires-2 fresh-requires-3 returns)

@@ -15,6 +15,10 @@ fn write(path: &Path, text: &str) {
     fs::set_permissions(path, fs::Permissions::from_mode(0o755)).unwrap();
 }
 
+/// What stands for a crate's source. It has no ending: the gate asks of every file of Rattle under the
+/// repository which crate it is in.
+const SOURCE: &str = "repository/crates/one/src/main";
+
 /// A repository with one crate and the script, and beside it a kit: `rt`, what it does given, and a
 /// loader that says what it is to run.
 fn place(name: &str, rt: &str) -> PathBuf {
@@ -24,7 +28,7 @@ fn place(name: &str, rt: &str) -> PathBuf {
     let loader = "#!/bin/sh\necho \"loader $2\"\ncat\n";
     write(&place.join(format!("kit/on/{}/toolchain/lib/ld-linux-x86-64.so.2", machine())), loader);
     write(&place.join("repository/crates.txt"), "one:\n");
-    write(&place.join("repository/crates/one/src/main.rt"), "");
+    write(&place.join(SOURCE), "");
     write(&place.join("repository/list"), "show\n");
     fs::copy(format!("{ROOT}/bench"), place.join("repository/bench")).unwrap();
     place
@@ -66,8 +70,7 @@ fn it_builds_what_is_missing_and_says_so() {
     // Nothing is missing now, until a source is newer.
     let (told, said) = texts(&bench(&place, &[]));
     assert!(told.starts_with("loader ") && said.is_empty(), "{told}{said}");
-    let source =
-        fs::File::options().write(true).open(place.join("repository/crates/one/src/main.rt"));
+    let source = fs::File::options().write(true).open(place.join(SOURCE));
     source.unwrap().set_modified(SystemTime::now() + Duration::from_secs(5)).unwrap();
     assert!(texts(&bench(&place, &[])).1.contains("bench: one proved"));
 }

@@ -4,6 +4,7 @@
 #include "sinezhab.h"
 
 #include <inttypes.h>
+#include <stdbool.h>
 #include <stdio.h>
 #include <string.h>
 
@@ -159,7 +160,7 @@ static struct sinezhab_offer offer(struct words *w)
     o.utc = (int16_t)signed_number(w, INT16_MAX);
     o.reserved = (uint8_t)number(w, UINT8_MAX);
     o.priority1 = (uint8_t)number(w, UINT8_MAX);
-    o.class = (uint8_t)number(w, UINT8_MAX);
+    o.clockclass = (uint8_t)number(w, UINT8_MAX);
     o.accuracy = (uint8_t)number(w, UINT8_MAX);
     o.variance = (uint16_t)number(w, UINT16_MAX);
     o.priority2 = (uint8_t)number(w, UINT8_MAX);
@@ -222,7 +223,7 @@ static void put_header(const struct sinezhab_header *h)
 
 static void put_offer(const struct sinezhab_offer *o)
 {
-    printf(" utc=%d reserved=%u p1=%u class=%u", o->utc, o->reserved, o->priority1, o->class);
+    printf(" utc=%d reserved=%u p1=%u class=%u", o->utc, o->reserved, o->priority1, o->clockclass);
     printf(" accuracy=%u variance=%u p2=%u", o->accuracy, o->variance, o->priority2);
     printf(" grandmaster=%016" PRIx64 " steps=%u source=%u", o->grandmaster, o->steps, o->time);
 }
@@ -240,8 +241,7 @@ static void put_message(const struct sinezhab_message *m)
 
 static void put_master(const struct sinezhab_answer *a)
 {
-    const struct sinezhab_port *sender = &a->master.sender;
-    if (a->master.some) printf("%016" PRIx64 "-%u", sender->clock, sender->number);
+    if (a->master.some) printf("%016" PRIx64 "-%u", a->master.clock, a->master.number);
     else printf("none");
 }
 
@@ -259,7 +259,7 @@ static void put_measured(const struct sinezhab_answer *a)
 
 static void put_line(const struct sinezhab_answer *a)
 {
-    const struct sinezhab_line *l = &a->line;
+    const struct sinezhab_drift *l = &a->line;
     uint64_t bits;
     memcpy(&bits, &l->ppm, sizeof bits);
     printf("line level=%" PRId64 " slope=%" PRId64 " over=%" PRId64 " n=%" PRId64, l->level, l->slope, l->over, l->n);
@@ -318,26 +318,31 @@ static void put_answer(const struct sinezhab_answer *a)
 static struct {
     struct sinezhab_given given;
     struct sinezhab_message message;
-    struct sinezhab_call call;
+    uint64_t now;
+    uint16_t sequence;
+    struct sinezhab_stamp stamp; /* of an arrival, or t3 */
+    int64_t reference, clock;
     size_t count; /* of octets, or of records */
     size_t room;  /* of the part or the frame */
 } asked;
 
+static struct sinezhab_answer answer;
+
 static void unit_words(struct words *w) { asked.given = given(w); }
 
-/* A refused `unit` line leaves the unit that was there. */
+/* A refused `unit` line leaves the unit that was there. A fresh table and a fresh watch are zeros. */
 static void play_unit(void)
 {
     struct sinezhab_made made = sinezhab_make(asked.given);
     if (made.refused) {
-        put_refused(made.refused, NULL, 0);
+        put_refused((unsigned)made.refused, NULL, 0);
         return;
     }
     desk.made = true;
     desk.unit = made.unit;
     desk.servo = made.servo;
-    desk.watch = sinezhab_watch();
-    for (size_t i = 0; i < RECORDS; i++) desk.table[i] = sinezhab_record();
+    memset(&desk.watch, 0, sizeof desk.watch);
+    memset(desk.table, 0, sizeof desk.table);
     puts("ok");
 }
 
@@ -377,87 +382,89 @@ static void play_write(void)
     put_octets(part, asked.room);
 }
 
-/* A call that is lent the table. */
-static void play_heard(uint8_t code)
-{
-    struct sinezhab_answer a;
-    asked.call.code = code;
-    sinezhab_hear(&desk.unit, &desk.servo, desk.table, desk.lent, &desk.watch, &asked.call, &a);
-    put_answer(&a);
-}
-
-/* One that asks nothing of table and watch. */
-static void play_turned(uint8_t code)
-{
-    struct sinezhab_answer a;
-    asked.call.code = code;
-    sinezhab_turn(&desk.unit, &desk.servo, &desk.watch, &asked.call, &a);
-    put_answer(&a);
-}
-
-/* One of the watch. */
-static void play_pulsed(uint8_t code)
-{
-    struct sinezhab_answer a;
-    asked.call.code = code;
-    sinezhab_pulse(&desk.unit, &desk.servo, &desk.watch, &asked.call, &a);
-    put_answer(&a);
-}
-
 static void receive_words(struct words *w)
 {
-    asked.call.now = number(w, UINT64_MAX);
-    asked.call.stamp = stamp(w);
+    asked.now = number(w, UINT64_MAX);
+    asked.stamp = stamp(w);
     asked.count = some_octets(w);
 }
 
-/* What reading refuses is handed over too: the door answers that refusal. */
 static void play_receive(void)
 {
-    asked.call.message = sinezhab_read(octets, asked.count);
-    play_heard(SINEZHAB_CALL_RECEIVE);
+    sinezhab_receive(&desk.unit, &desk.servo, desk.table, desk.lent, &desk.watch, octets, asked.count, asked.now, asked.stamp, &answer);
+    put_answer(&answer);
 }
-
-static void time_words(struct words *w) { asked.call.now = number(w, UINT64_MAX); }
-static void play_time(void) { play_heard(SINEZHAB_CALL_TIME); }
 
 static void request_words(struct words *w)
 {
-    asked.call.now = number(w, UINT64_MAX);
+    asked.now = number(w, UINT64_MAX);
     asked.room = (size_t)number(w, FRAME);
 }
 
 static void play_request(void)
 {
     memset(part, BEFORE, asked.room);
-    struct sinezhab_answer a = sinezhab_request(&desk.unit, part, asked.room, asked.call.now);
-    if (a.code != SINEZHAB_ANSWER_ASKED) {
-        put_refused(a.refused, part, asked.room);
+    sinezhab_request(&desk.unit, part, asked.room, asked.now, &answer);
+    if (answer.code != SINEZHAB_ANSWER_ASKED) {
+        put_refused(answer.refused, part, asked.room);
         return;
     }
-    printf("asked sequence=%u frame=", a.sequence);
+    printf("asked sequence=%u frame=", answer.sequence);
     put_octets(part, asked.room);
 }
 
 static void sent_words(struct words *w)
 {
-    asked.call.now = number(w, UINT64_MAX);
-    asked.call.sequence = (uint16_t)number(w, UINT16_MAX);
-    asked.call.stamp = stamp(w);
+    asked.now = number(w, UINT64_MAX);
+    asked.sequence = (uint16_t)number(w, UINT16_MAX);
+    asked.stamp = stamp(w);
+}
+
+static void play_sent(void)
+{
+    sinezhab_sent(&desk.unit, &desk.servo, &desk.watch, asked.now, asked.sequence, asked.stamp, &answer);
+    put_answer(&answer);
+}
+
+static void time_words(struct words *w) { asked.now = number(w, UINT64_MAX); }
+
+static void play_time(void)
+{
+    sinezhab_time(&desk.unit, &desk.servo, desk.table, desk.lent, &desk.watch, asked.now, &answer);
+    put_answer(&answer);
 }
 
 static void tick_words(struct words *w)
 {
-    asked.call.reference = signed_number(w, INT64_MAX);
-    asked.call.clock = signed_number(w, INT64_MAX);
+    asked.reference = signed_number(w, INT64_MAX);
+    asked.clock = signed_number(w, INT64_MAX);
+}
+
+static void play_tick(void)
+{
+    sinezhab_tick(&desk.unit, &desk.servo, &desk.watch, asked.reference, asked.clock, &answer);
+    put_answer(&answer);
 }
 
 static void no_words(struct words *w) { (void)w; }
-static void play_sent(void) { play_turned(SINEZHAB_CALL_SENT); }
-static void play_tick(void) { play_pulsed(SINEZHAB_CALL_TICK); }
-static void play_reset(void) { play_turned(SINEZHAB_CALL_RESET); }
-static void play_line(void) { play_pulsed(SINEZHAB_CALL_LINE); }
-static void play_show(void) { play_turned(SINEZHAB_CALL_SHOW); }
+
+static void play_reset(void)
+{
+    sinezhab_reset(&desk.unit, &desk.servo, &desk.watch, &answer);
+    put_answer(&answer);
+}
+
+static void play_line(void)
+{
+    sinezhab_line(&desk.unit, &desk.watch, &answer);
+    put_answer(&answer);
+}
+
+static void play_show(void)
+{
+    sinezhab_show(&desk.unit, &desk.servo, &answer);
+    put_answer(&answer);
+}
 
 static const struct call {
     const char *name;

@@ -2,24 +2,25 @@
 # What the calls of the door cost: instructions, stack, text and state, and linuxptp's instructions for like work. docs/COST.md has them.
 # Usage: scripts/cost.sh
 # Needs a Debian machine with the kit (rt, or what RT names), python3 and dpkg-dev; where it is x86-64 gcc, binutils and valgrind, else
-# gcc-x86-64-linux-gnu and qemu-user. LIB names a library that is built already, LINUXPTP a folder with linuxptp's source; else it is fetched
-# from the machine's own package sources, into a temporary folder. The counts are the same at each run with the same kit and gcc.
+# gcc-x86-64-linux-gnu and qemu-user. LIB names a library that is built already, LINUXPTP a folder with linuxptp's source; else that is
+# fetched from the machine's own package sources, into a temporary folder, and where it can't be its table is left out. The counts are the
+# same at each run with the same kit and gcc.
 set -euo pipefail
-[ $# = 0 ] || { sed -n '2,6s/^# //p' "$0" >&2; exit 2; }
+[ $# = 0 ] || { sed -n '2,7s/^# //p' "$0" >&2; exit 2; }
 [ -z "${LIB:-}" ] || LIB=$(realpath "$LIB")
 [ -z "${LINUXPTP:-}" ] || LINUXPTP=$(realpath "$LINUXPTP")
 cd "$(dirname "$0")/.."
 work=$(mktemp -d)
 trap 'rm -rf "$work"' EXIT
-[ -n "${LIB:-}" ] || { "${RT:-rt}" staticlib door >&2; LIB=$PWD/target/staticlib/libdoor.a; }
+. scripts/library.sh
 cost=$PWD/scripts/cost
-tools= link=-Wl,-z,now traced= run=
-if [ "$(uname -m)" != x86_64 ]; then
-  tools=x86_64-linux-gnu- link="-no-pie $link" traced=-DTRACED run="qemu-x86_64 -L /usr/x86_64-linux-gnu"
+link=-Wl,-z,now traced=
+if [ -n "$tools" ]; then
+  link="-no-pie $link" traced=-DTRACED run=(qemu-x86_64 -L /usr/x86_64-linux-gnu)
 fi
 export OBJDUMP="${OBJDUMP:-${tools}objdump}"
 
-# compile WORDS..: C for x86-64
+# compile WORDS..: C for x86-64, in place of library.sh's
 compile() { "${tools}gcc" -O2 $traced "$@"; }
 
 # linuxptp's source by the machine's package sources, asked for sources; no setting of the machine is changed
@@ -33,7 +34,7 @@ fetch() {
   local options=(-q -o Dir::Etc::sourcelist=/dev/null -o Dir::Etc::sourceparts="$apt/parts" -o Dir::State::lists="$apt/lists"
                  -o Dir::Cache="$apt/cache" -o APT::Sandbox::User="$(id -un)")
   (cd "$apt" && apt-get "${options[@]}" update && apt-get "${options[@]}" source --download-only linuxptp &&
-    dpkg-source --no-check -x linuxptp_*.dsc "$work/linuxptp") >"$work/log" 2>&1 || { cat "$work/log" >&2; exit 1; }
+    dpkg-source --no-check -x linuxptp_*.dsc "$work/linuxptp") >"$work/log" 2>&1 || { tail -n 3 "$work/log" >&2; return 1; }
   LINUXPTP=$work/linuxptp
 }
 
@@ -57,21 +58,29 @@ count() {
 compile -fno-builtin -fno-tree-vectorize -fno-tree-loop-distribute-patterns -c "$cost/plain.c" -o "$work/plain.o"
 compile -std=c11 -Wall -Wextra -Idoor -I"$cost" "$cost/ours.c" "$work/plain.o" "$LIB" $link -o "$work/ours"
 echo "## Instructions of the door"
-count "$work/ours" "$LIB" sinezhab_{read,write,make,watch,record,hear,turn,pulse,request} | tee "$work/ours.table"
+count "$work/ours" "$LIB" sinezhab_{read,write,make,receive,time,request,sent,reset,tick,line,show} | tee "$work/ours.table"
 
-[ -n "${LINUXPTP:-}" ] || fetch
-cd "$LINUXPTP"
-defines=$(./incdefs.sh)
-for part in msg tlv bmc pi mmedian filter print; do
-  compile -w -ffunction-sections $defines -DVER=0 -c $part.c -o "$work/$part.o"
-done
-compile -w -ffunction-sections $defines -I. -I"$cost" -c "$cost/linuxptp.c" -o "$work/driver.o"
-compile "$work"/{driver,msg,tlv,bmc,pi,mmedian,filter,print,plain}.o -Wl,--gc-sections $link -lm -o "$work/theirs"
-cd - >/dev/null
+# linuxptp's own table
+theirs() {
+  cd "$LINUXPTP"
+  local defines part
+  defines=$(./incdefs.sh)
+  for part in msg tlv bmc pi mmedian filter print; do
+    compile -w -ffunction-sections $defines -DVER=0 -c $part.c -o "$work/$part.o"
+  done
+  compile -w -ffunction-sections $defines -I. -I"$cost" -c "$cost/linuxptp.c" -o "$work/driver.o"
+  compile "$work"/{driver,msg,tlv,bmc,pi,mmedian,filter,print,plain}.o -Wl,--gc-sections $link -lm -o "$work/theirs"
+  cd - >/dev/null
+  count "$work/theirs" "$(echo "$work"/{msg,tlv,bmc,pi,mmedian,filter,print}.o)" \
+    msg_post_recv dscmp pi_sample mmedian_sample clock_gettime
+}
 echo
-echo "## Instructions of linuxptp $(sed -n '1s/.*(\(.*\)).*/\1/p' "$LINUXPTP/debian/changelog" 2>/dev/null)"
-count "$work/theirs" "$(echo "$work"/{msg,tlv,bmc,pi,mmedian,filter,print}.o)" \
-  msg_post_recv dscmp pi_sample mmedian_sample clock_gettime | tee "$work/theirs.table"
+if [ -n "${LINUXPTP:-}" ] || fetch; then
+  echo "## Instructions of linuxptp $(sed -n '1s/.*(\(.*\)).*/\1/p' "$LINUXPTP/debian/changelog" 2>/dev/null)"
+  theirs
+else
+  echo "## Instructions of linuxptp: its source can't be fetched here"
+fi
 
 echo
 echo "## Deepest stack, octets"
@@ -84,20 +93,31 @@ data=$("${tools}size" -A "$LIB" | awk '/^\.rodata/ { n += $2 } END { print n + 0
 asks=$("${tools}nm" -u "$LIB" 2>/dev/null | awk '/ U / { print $2 }' | sort -u | tr '\n' ' ')
 echo "code $code, constants $data; asks of the C library: $asks"
 compile -std=c11 -Idoor -Wall -Wextra "$cost/sizes.c" $link -o "$work/sizes"
-$run "$work/sizes" | tee "$work/state"
+"${run[@]}" "$work/sizes" | tee "$work/state"
 
 # held NAME FIGURE LIMIT: says whether the figure is within the target
 held() { echo "$1: $2, target $3: $([ "$2" -le "$3" ] && echo met || echo missed)"; }
-# row TABLE NAME: the instructions of a call
-row() { awk -F ' [|] ' -v name="| $2" '$1 == name { gsub(",", "", $2); print $2 }' "$1"; }
+# row NAME: the instructions of a call
+row() { awk -F ' [|] ' -v name="| $1" '$1 == name { gsub(",", "", $2); print $2 }' "$work/ours.table"; }
+# dearest NAME: those of the dearest call whose name begins so and that wipes nothing
+dearest() {
+  awk -F ' [|] ' -v name="| $1" 'index($1, name) == 1 && !/wiped/ { gsub(",", "", $2); if (most < $2 + 0) most = $2 + 0 }
+                                 END { print most + 0 }' "$work/ours.table"
+}
+# stack NAMES: the deepest stack of the calls whose names fit the pattern
+stack() { awk -v names="^sinezhab_($1)$" '$2 ~ names && most < $1 { most = $1 } END { print most + 0 }' "$work/stack"; }
 
 echo
 echo "## Targets"
-held "deepest stack" "$(sort -n "$work/stack" | awk 'END { print $1 }')" 8191
-held "state" "$(awk '{ print $NF }' "$work/state")" 8191
-held "code and constants" $((code + data)) 131071
-held "reading an Announce, against 3 times linuxptp's" "$(row "$work/ours.table" "read Announce")" \
-  $((3 * $(row "$work/theirs.table" "read Announce")))
-awk -F ' [|] ' 'NR > 2 && !/wiped/ { gsub(",", "", $2); print $2 " " substr($1, 3) }' "$work/ours.table" |
-  sort -n | tail -1 >"$work/dearest"
-held "dearest call that wipes nothing ($(cut -d ' ' -f 2- "$work/dearest"))" "$(cut -d ' ' -f 1 "$work/dearest")" 10000
+held "stack of receive and time" "$(stack 'receive|time')" 2048
+held "stack of every other call" "$(stack 'make|read|write|request|sent|reset|tick|line|show|version')" 1024
+held "state" "$(awk '{ print $NF }' "$work/state")" 3072
+held "code and constants" $((code + data)) 49152
+held "reading an Announce" "$(row "read Announce")" 176
+held "dearest Announce that wipes nothing" "$(dearest "receive: Announce")" 1000
+held "dearest Sync" "$(dearest "receive: Sync")" 700
+held "Follow_Up" "$(dearest "receive: Follow_Up")" 700
+held "dearest Delay_Resp that wipes nothing" "$(dearest "receive: Delay_Resp")" 1100
+held "dearest time that wipes nothing" "$(dearest time)" 800
+held "dearest tick that wipes nothing" "$(dearest tick)" 600
+held "dearest line" "$(dearest line)" 2600

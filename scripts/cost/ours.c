@@ -6,6 +6,7 @@
 
 #include "count.h"
 
+#include <stdbool.h>
 #include <stdio.h>
 #include <stdlib.h>
 #include <string.h>
@@ -19,6 +20,13 @@ struct hall {
     uint16_t sequence;
 };
 
+/* A message as it comes. */
+struct frame {
+    uint8_t octets[64];
+    size_t length;
+    struct sinezhab_stamp arrival;
+};
+
 static struct sinezhab_answer answer;
 
 static void need(bool holds, const char *what)
@@ -28,109 +36,100 @@ static void need(bool holds, const char *what)
     exit(1);
 }
 
-/* Calls, counted where they have a name. */
+/* Calls, counted where they have a name. Each must be answered with its code. */
 
-static void hear(struct hall *h, const char *name, struct sinezhab_call call, unsigned code)
+#define CALL(name, expected, call) \
+    do { \
+        const char *called = name; \
+        if (called) \
+            COUNT(called, call); \
+        else \
+            call; \
+        need(answer.code == (expected), called ? called : #call); \
+    } while (0)
+
+static void receive(struct hall *h, const char *name, struct frame f, unsigned code)
 {
-    call.now = h->now;
-    if (name)
-        COUNT(name, sinezhab_hear(&h->unit, &h->servo, h->table, SINEZHAB_TABLE, &h->watch, &call, &answer));
-    else
-        sinezhab_hear(&h->unit, &h->servo, h->table, SINEZHAB_TABLE, &h->watch, &call, &answer);
-    need(answer.code == code, name ? name : "hear");
+    CALL(name, code,
+         sinezhab_receive(&h->unit, &h->servo, h->table, SINEZHAB_TABLE, &h->watch, f.octets, f.length, h->now, f.arrival, &answer));
 }
 
-static void turn(struct hall *h, const char *name, struct sinezhab_call call, unsigned code)
+static void pass(struct hall *h, const char *name, unsigned code)
 {
-    call.now = h->now;
-    if (name)
-        COUNT(name, sinezhab_turn(&h->unit, &h->servo, &h->watch, &call, &answer));
-    else
-        sinezhab_turn(&h->unit, &h->servo, &h->watch, &call, &answer);
-    need(answer.code == code, name ? name : "turn");
-}
-
-static void pulse(struct hall *h, const char *name, struct sinezhab_call call, unsigned code)
-{
-    if (name)
-        COUNT(name, sinezhab_pulse(&h->unit, &h->servo, &h->watch, &call, &answer));
-    else
-        sinezhab_pulse(&h->unit, &h->servo, &h->watch, &call, &answer);
-    need(answer.code == code, name ? name : "pulse");
+    CALL(name, code, sinezhab_time(&h->unit, &h->servo, h->table, SINEZHAB_TABLE, &h->watch, h->now, &answer));
 }
 
 static void request(struct hall *h, const char *name)
 {
     static uint8_t frame[60];
-    if (name)
-        COUNT(name, answer = sinezhab_request(&h->unit, frame, sizeof frame, h->now));
-    else
-        answer = sinezhab_request(&h->unit, frame, sizeof frame, h->now);
-    need(answer.code == SINEZHAB_ANSWER_ASKED, name ? name : "request");
+    CALL(name, SINEZHAB_ANSWER_ASKED, sinezhab_request(&h->unit, frame, sizeof frame, h->now, &answer));
 }
+
+static void sent(struct hall *h, const char *name, uint16_t sequence, struct sinezhab_stamp t3)
+{
+    CALL(name, SINEZHAB_ANSWER_STAMPED, sinezhab_sent(&h->unit, &h->servo, &h->watch, h->now, sequence, t3, &answer));
+}
+
+static void reset(struct hall *h, const char *name)
+{
+    CALL(name, SINEZHAB_ANSWER_WIPED, sinezhab_reset(&h->unit, &h->servo, &h->watch, &answer));
+}
+
+static void tick(struct hall *h, const char *name, int second, int64_t y, unsigned code)
+{
+    int64_t reference = (int64_t)second * 1000000000;
+    CALL(name, code, sinezhab_tick(&h->unit, &h->servo, &h->watch, reference, reference + y, &answer));
+}
+
+static void line(struct hall *h, const char *name, unsigned code) { CALL(name, code, sinezhab_line(&h->unit, &h->watch, &answer)); }
+static void show(struct hall *h, const char *name) { CALL(name, SINEZHAB_ANSWER_SHOWS, sinezhab_show(&h->unit, &h->servo, &answer)); }
 
 /* Messages */
 
-static struct sinezhab_call received(struct sinezhab_message m, struct sinezhab_stamp arrival)
+static void put(uint8_t *octets, uint64_t value, size_t n)
 {
-    struct sinezhab_call call = { .code = SINEZHAB_CALL_RECEIVE, .stamp = arrival, .message = m };
-    return call;
-}
-
-static struct sinezhab_call read_octets(const uint8_t *octets, size_t length)
-{
-    struct sinezhab_call call = received(sinezhab_read(octets, length), (struct sinezhab_stamp){ 0 });
-    need(call.message.refused == 0, "read");
-    return call;
+    for (size_t i = 0; i < n; i++) octets[i] = (uint8_t)(value >> 8 * (n - 1 - i));
 }
 
 /* The Announce of one of five masters, each its own grandmaster; a smaller priority1 or a smaller identity is better. */
-static struct sinezhab_call announced(struct hall *h, unsigned master, uint8_t priority1)
+static struct frame announced(struct hall *h, unsigned master, uint8_t priority1)
 {
-    struct sinezhab_call call = read_octets(announce, sizeof announce);
-    call.message.header.source.clock += master;
-    call.message.header.sequence = ++h->sequence;
-    call.message.offer.grandmaster += master;
-    call.message.offer.priority1 = priority1;
-    return call;
+    struct frame f = { .length = sizeof announce };
+    memcpy(f.octets, announce, sizeof announce);
+    f.octets[27] += (uint8_t)master; /* the last octet of the sender's identity, and of the grandmaster's */
+    f.octets[60] += (uint8_t)master;
+    f.octets[47] = priority1;
+    put(f.octets + 30, ++h->sequence, 2);
+    return f;
 }
 
 /* One of the exchange's messages from the first master. */
-static struct sinezhab_call exchanged(const uint8_t *octets, size_t length, uint16_t sequence, uint64_t seconds, int64_t ns)
+static struct frame exchanged(const uint8_t *octets, size_t length, uint16_t sequence, uint64_t seconds, int64_t ns)
 {
-    struct sinezhab_call call = read_octets(octets, length);
-    call.message.header.sequence = sequence;
-    call.message.stamp.seconds = seconds;
-    call.message.stamp.nanoseconds = (uint32_t)ns;
-    return call;
+    struct frame f = { .length = length };
+    memcpy(f.octets, octets, length);
+    put(f.octets + 30, sequence, 2);
+    put(f.octets + 34, seconds, 6);
+    put(f.octets + 40, (uint64_t)ns, 4);
+    return f;
 }
 
 /* An exchange up to its Delay_Resp, which is answered: its t4. Names are given where the steps are to be counted. */
-static struct sinezhab_call halves(struct hall *h, bool named, int64_t forward, int64_t back)
+static struct frame halves(struct hall *h, bool named, int64_t forward, int64_t back)
 {
     const int64_t half = 500000000; /* t1, in its second; t3 a quarter of a second later than t2 */
     uint16_t own;
     h->second++;
     h->now += 1000;
-    struct sinezhab_call s = exchanged(sync, sizeof sync, (uint16_t)h->second, 0, 0);
-    s.stamp = (struct sinezhab_stamp){ h->second, (uint32_t)(half + forward) };
-    hear(h, named ? "hear: Sync" : NULL, s, SINEZHAB_ANSWER_HELD);
-    hear(h, named ? "hear: Follow_Up" : NULL, exchanged(follow_up, sizeof follow_up, (uint16_t)h->second, h->second, half),
-         SINEZHAB_ANSWER_PAIRED);
+    struct frame s = exchanged(sync, sizeof sync, (uint16_t)h->second, 0, 0);
+    s.arrival = (struct sinezhab_stamp){ h->second, (uint32_t)(half + forward) };
+    receive(h, named ? "receive: Sync" : NULL, s, SINEZHAB_ANSWER_HELD);
+    receive(h, named ? "receive: Follow_Up" : NULL, exchanged(follow_up, sizeof follow_up, (uint16_t)h->second, h->second, half),
+            SINEZHAB_ANSWER_PAIRED);
     request(h, named ? "request" : NULL);
     own = answer.sequence;
-    struct sinezhab_call t3 = { .code = SINEZHAB_CALL_SENT, .sequence = own };
-    t3.stamp = (struct sinezhab_stamp){ h->second, (uint32_t)(half + forward + half / 2) };
-    turn(h, named ? "turn: sent" : NULL, t3, SINEZHAB_ANSWER_STAMPED);
+    sent(h, named ? "sent" : NULL, own, (struct sinezhab_stamp){ h->second, (uint32_t)(half + forward + half / 2) });
     return exchanged(delay_resp, sizeof delay_resp, own, h->second, half + forward + half / 2 + back);
-}
-
-static struct sinezhab_call ticked(uint64_t second, int64_t y)
-{
-    struct sinezhab_call call = { .code = SINEZHAB_CALL_TICK };
-    call.reference = (int64_t)second * 1000000000;
-    call.clock = call.reference + y;
-    return call;
 }
 
 /* States */
@@ -146,9 +145,7 @@ static struct hall fresh(int64_t window)
     need(made.refused == 0, "make");
     h.unit = made.unit;
     h.servo = made.servo;
-    h.watch = sinezhab_watch();
-    for (int i = 0; i < SINEZHAB_TABLE; i++) h.table[i] = sinezhab_record();
-    return h;
+    return h; /* a fresh watch and a fresh table are zeros */
 }
 
 /* Five masters, each with two Announces; the first is chosen. `step` is from one's priority1 to the next. */
@@ -156,7 +153,7 @@ static void announce_five(struct hall *h, uint8_t step)
 {
     for (unsigned i = 0; i < 10; i++) {
         h->now += 100;
-        hear(h, NULL, announced(h, i % 5, (uint8_t)(100 + step * (i % 5))), i == 5 ? SINEZHAB_ANSWER_CHANGED : SINEZHAB_ANSWER_CHOSE);
+        receive(h, NULL, announced(h, i % 5, (uint8_t)(100 + step * (i % 5))), i == 5 ? SINEZHAB_ANSWER_CHANGED : SINEZHAB_ANSWER_CHOSE);
     }
 }
 
@@ -164,7 +161,7 @@ static struct hall at_work(int64_t window, uint8_t step)
 {
     struct hall h = fresh(window);
     announce_five(&h, step);
-    for (int i = 0; i < window; i++) pulse(&h, NULL, ticked((uint64_t)i, 50 * i), SINEZHAB_ANSWER_VALID);
+    for (int i = 0; i < window; i++) tick(&h, NULL, i, 50 * i, SINEZHAB_ANSWER_VALID);
     return h;
 }
 
@@ -173,9 +170,9 @@ static void measure_nine(struct hall *h, bool swings)
 {
     for (int i = 0; i < 9; i++) {
         int64_t offset = swings ? (i % 2 ? -250 : 250) : 20;
-        struct sinezhab_call resp = halves(h, false, 10250 + offset, 10250 - offset);
-        hear(h, NULL, announced(h, 0, 100), SINEZHAB_ANSWER_CHOSE);
-        hear(h, NULL, resp, SINEZHAB_ANSWER_MEASURED);
+        struct frame resp = halves(h, false, 10250 + offset, 10250 - offset);
+        receive(h, NULL, announced(h, 0, 100), SINEZHAB_ANSWER_CHOSE);
+        receive(h, NULL, resp, SINEZHAB_ANSWER_MEASURED);
     }
 }
 
@@ -209,75 +206,70 @@ static void count_making(void)
 {
     struct sinezhab_given g = { .announce = 5 };
     struct sinezhab_made made;
-    struct sinezhab_watch watch;
-    struct sinezhab_record record;
     COUNT("make, refused", made = sinezhab_make(g));
     need(made.refused == 8, "make");
     g = (struct sinezhab_given){ .kp = 700, .ki = 300, .limit = 1, .window = 2, .minimum = 2, .spike = 1, .jump = 2 };
     COUNT("make", made = sinezhab_make(g));
     need(made.refused == 0, "make");
-    COUNT("watch", watch = sinezhab_watch());
-    COUNT("record", record = sinezhab_record());
-    (void)watch, (void)record;
 }
 
 /* Announces and time. With a step of 0 identities decide: the dearest comparison. */
 static void count_masters(const struct hall *work, const struct hall *alike)
 {
-    struct sinezhab_call time = { .code = SINEZHAB_CALL_TIME };
     struct hall h = *work;
-    hear(&h, "hear: Announce", announced(&h, 0, 100), SINEZHAB_ANSWER_CHOSE);
+    receive(&h, "receive: Announce", announced(&h, 0, 100), SINEZHAB_ANSWER_CHOSE);
     h = *alike;
-    hear(&h, "hear: Announce, identities decide, last place", announced(&h, 4, 100), SINEZHAB_ANSWER_CHOSE);
+    receive(&h, "receive: Announce, identities decide, last place", announced(&h, 4, 100), SINEZHAB_ANSWER_CHOSE);
     h = *work;
-    hear(&h, "hear: Announce, better master: wiped", announced(&h, 4, 1), SINEZHAB_ANSWER_CHANGED);
+    receive(&h, "receive: Announce, better master: wiped", announced(&h, 4, 1), SINEZHAB_ANSWER_CHANGED);
     h = *work;
-    hear(&h, "hear: Announce, refused (15, a sixth master)", announced(&h, 5, 1), SINEZHAB_ANSWER_REFUSED);
+    receive(&h, "receive: Announce, refused (15, a sixth master)", announced(&h, 5, 1), SINEZHAB_ANSWER_REFUSED);
+    need(answer.refused == SINEZHAB_REFUSAL_FULL, "full");
     h = *work;
-    hear(&h, "hear: time", time, SINEZHAB_ANSWER_CHOSE);
+    pass(&h, "time", SINEZHAB_ANSWER_CHOSE);
     h = *alike;
-    hear(&h, "hear: time, identities decide", time, SINEZHAB_ANSWER_CHOSE);
+    pass(&h, "time, identities decide", SINEZHAB_ANSWER_CHOSE);
     h = fresh(120);
-    hear(&h, "hear: time, no master", time, SINEZHAB_ANSWER_CHOSE);
+    pass(&h, "time, no master", SINEZHAB_ANSWER_CHOSE);
     h = *work;
     h.now += 100000;
-    hear(&h, "hear: time, master lost: wiped", time, SINEZHAB_ANSWER_CHANGED);
+    pass(&h, "time, master lost: wiped", SINEZHAB_ANSWER_CHANGED);
 }
 
 static void count_exchange(const struct hall *work)
 {
     struct hall h = *work;
     measure_nine(&h, false);
-    hear(&h, "hear: Delay_Resp, measured", halves(&h, true, 10270, 10230), SINEZHAB_ANSWER_MEASURED);
-    turn(&h, "turn: show, tracking", (struct sinezhab_call){ .code = SINEZHAB_CALL_SHOW }, SINEZHAB_ANSWER_SHOWS);
+    receive(&h, "receive: Delay_Resp, measured", halves(&h, true, 10270, 10230), SINEZHAB_ANSWER_MEASURED);
+    show(&h, "show, tracking");
     need(answer.servo == SINEZHAB_SERVO_TRACKING, "show");
     h = *work;
     measure_nine(&h, true);
-    hear(&h, "hear: Delay_Resp, measured, median, gains halved", halves(&h, false, 12500, 12500), SINEZHAB_ANSWER_MEASURED);
+    receive(&h, "receive: Delay_Resp, measured, median, gains halved", halves(&h, false, 12500, 12500), SINEZHAB_ANSWER_MEASURED);
     need(answer.used == 10250 && h.servo.kp == 350, "median");
     h = *work;
     measure_nine(&h, false);
-    hear(&h, "hear: Delay_Resp, negative sum", halves(&h, false, 10, -20), SINEZHAB_ANSWER_NEG);
-    hear(&h, "hear: Delay_Resp, step: wiped", halves(&h, false, 200000000, -199980000), SINEZHAB_ANSWER_STEP);
+    receive(&h, "receive: Delay_Resp, negative sum", halves(&h, false, 10, -20), SINEZHAB_ANSWER_NEG);
+    receive(&h, "receive: Delay_Resp, step: wiped", halves(&h, false, 200000000, -199980000), SINEZHAB_ANSWER_STEP);
     h = *work;
-    struct sinezhab_call other = exchanged(sync, sizeof sync, 1, 0, 0);
-    other.message.header.source.clock++;
-    hear(&h, "hear: Sync, refused (16, not the master)", other, SINEZHAB_ANSWER_REFUSED);
+    struct frame other = exchanged(sync, sizeof sync, 1, 0, 0);
+    other.octets[27]++;
+    receive(&h, "receive: Sync, refused (16, not the master)", other, SINEZHAB_ANSWER_REFUSED);
+    need(answer.refused == SINEZHAB_REFUSAL_NOT_MASTER, "not the master");
 }
 
 static void count_watch(const struct hall *work)
 {
-    struct sinezhab_call line = { .code = SINEZHAB_CALL_LINE };
     struct hall h = *work;
-    pulse(&h, "pulse: tick, valid", ticked(120, 50 * 120), SINEZHAB_ANSWER_VALID);
-    pulse(&h, "pulse: line of 120 samples", line, SINEZHAB_ANSWER_LINE);
+    tick(&h, "tick, valid", 120, 50 * 120, SINEZHAB_ANSWER_VALID);
+    line(&h, "line of 120 samples", SINEZHAB_ANSWER_LINE);
     need(answer.line.n == 120 && answer.line.slope == 50 * answer.line.over, "line");
-    pulse(&h, "pulse: tick, invalid", ticked(121, 1500000), SINEZHAB_ANSWER_INVALID);
-    pulse(&h, "pulse: tick, jump: wiped", ticked(122, 5000000), SINEZHAB_ANSWER_JUMP);
-    pulse(&h, "pulse: line, refused", line, SINEZHAB_ANSWER_REFUSED);
-    turn(&h, "turn: reset: wiped", (struct sinezhab_call){ .code = SINEZHAB_CALL_RESET }, SINEZHAB_ANSWER_WIPED);
+    tick(&h, "tick, invalid", 121, 1500000, SINEZHAB_ANSWER_INVALID);
+    tick(&h, "tick, jump: wiped", 122, 5000000, SINEZHAB_ANSWER_JUMP);
+    line(&h, "line, refused", SINEZHAB_ANSWER_REFUSED);
+    reset(&h, "reset: wiped");
     h = at_work(128, 1);
-    pulse(&h, "pulse: line of 128 samples", line, SINEZHAB_ANSWER_LINE);
+    line(&h, "line of 128 samples", SINEZHAB_ANSWER_LINE);
     need(answer.line.n == 128, "line");
 }
 

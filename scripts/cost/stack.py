@@ -17,6 +17,12 @@ RELOCATION = re.compile(r"^\s*[0-9a-f]+: R_X86_64_\w+\s+(.+?)([-+]0x[0-9a-f]+)?$
 TARGET = re.compile(r"^([0-9a-f]+) <")
 
 
+def called(symbol, args):
+    """The function that a call or a jump leads to: by its relocation, or where the assembler has settled it, by the name in the operand."""
+    inside = re.match(r"^[0-9a-f]+ <([^+>]+)>$", args)
+    return symbol or (inside[1] if inside else "*" + args)
+
+
 def signed(text):
     value = int(text, 16)
     return value - (1 << 64) if value >> 63 else value
@@ -68,14 +74,14 @@ class Function:
         if op.startswith(("ret", "ud2", "hlt", "int3")):
             return []
         if op == "call":
-            self.calls.append((symbol or "*" + args, depth + 8))
+            self.calls.append((called(symbol, args), depth + 8))
             return [(i + 1, depth)]
         if op.startswith("j"):
             inside = None if symbol else TARGET.match(args)
             place = self.at.get(int(inside[1], 16)) if inside else None
             on = [] if op == "jmp" else [(i + 1, depth)]
             if place is None and (symbol or inside):
-                self.calls.append((symbol or args, depth))  # a tail call
+                self.calls.append((called(symbol, args), depth))  # a tail call
             if place is None:
                 self.jumps = max(self.jumps, depth) if not symbol and not inside else self.jumps
                 return on

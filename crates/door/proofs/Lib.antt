@@ -1,1 +1,3 @@
-pub mod Loop
+-- What the walks of the exports cite: fields and slices that are lent on, and come back.
+pub mod Fields
+pub mod Again

@@ -1,32 +1,32 @@
-// An answer of the unit as numbers.
+// An answer of the unit as numbers. What a code does not carry is 0.
 ghost use mathlib.Core.Path.{_≡_};
-ghost use Rattle.door_words.specs.Answers.{portCode, servoCode, noLine, plain, refusing, naming, asking, measuring, stepping, lining, showing, choosing, exchanging, pulsing, answerWords};
-use numbers::refusal::Refusal;
+ghost use Rattle.numbers.specs.Refusals.{numberOf};
+ghost use Rattle.door_words.specs.Answers.{portCode, servoCode, noLine, plain, refusing, naming, spoken, lining, showing, choosing, driftWords};
+use door_records::unit::ChosenWords;
 use numbers::units::Nanoseconds;
 use numbers::units::Ppb;
 use rules_exchange::Accepted;
-use rules_exchange::said::Said;
 use rules_masters::chosen::Chosen;
 use rules_masters::chosen::Decision;
 use rules_servo::shown::Shown;
-use rules_watch::Pulse;
+use rules_watch::Drift;
 use rules_watch::totals::Line;
-use unit_core::calls::Answer;
 use unit_core::calls::PortState;
 use unit_core::calls::Shows;
 
-// What a code does not carry is 0.
+// 104 octets, none of them unnamed.
 #[repr(C)]
 pub struct AnswerWords {
-    pub code: u8, // of the answer, as specs/Answers.antt lists them
+    pub code: u8, // of the answer, as specs/Answers.antt and what it cites list them
     pub refused: u8, // the refusal's number: rule 3.N
     pub port: u8, // 0 FAULTY, 1 LISTENING, 2 UNCALIBRATED, 3 SLAVE
     pub servo: u8, // 0 HOLDOVER, 1 TRACKING, 2 ADJUSTING
-    pub sequence: u16,
     pub output: Ppb,
     pub wipes: u32,
+    pub sequence: u16,
+    pub spare: u16,
     pub now: u64,
-    pub master: Chosen,
+    pub master: ChosenWords,
     pub delay: Nanoseconds,
     pub used: Nanoseconds,
     pub offset: Nanoseconds,
@@ -68,7 +68,7 @@ fn servo_code(servo: Shown) -> u8
 
 impl AnswerWords {
     // The code alone.
-    fn plain(code: u8) -> AnswerWords
+    pub fn plain(code: u8) -> AnswerWords
         ensures { λ r. ⌜ r ≡ plain code ⌝ }
     {
         AnswerWords {
@@ -76,11 +76,12 @@ impl AnswerWords {
             refused: 0,
             port: 0,
             servo: 0,
-            sequence: 0,
             output: Ppb(0),
             wipes: 0,
+            sequence: 0,
+            spare: 0,
             now: 0,
-            master: Chosen::fresh(),
+            master: ChosenWords::of(Chosen::fresh()),
             delay: Nanoseconds(0),
             used: Nanoseconds(0),
             offset: Nanoseconds(0),
@@ -100,36 +101,32 @@ impl AnswerWords {
         ensures { λ r. ⌜ r ≡ naming code master ⌝ }
     {
         let mut words = AnswerWords::plain(code);
-        words.master = master;
+        words.master = ChosenWords::of(master);
         words
     }
 
-    fn asking(sequence: u16) -> AnswerWords
-        ensures { λ r. ⌜ r ≡ asking sequence ⌝ }
+    // Of the choice.
+    pub fn choosing(decision: Decision) -> AnswerWords
+        ensures { λ r. ⌜ r ≡ choosing decision ⌝ }
     {
-        let mut words = AnswerWords::plain(5);
-        words.sequence = sequence;
-        words
+        match decision {
+            Decision::Same(master) => AnswerWords::naming(1, master),
+            Decision::Changed(master) => AnswerWords::naming(2, master),
+        }
     }
 
-    fn measuring(found: Accepted, output: Ppb) -> AnswerWords
-        ensures { λ r. ⌜ r ≡ measuring found output ⌝ }
+    // Of the exchange: its code, and what that carries.
+    pub fn spoken(code: u8, sequence: u16, found: Accepted, output: Ppb) -> AnswerWords
+        ensures { λ r. ⌜ r ≡ spoken code sequence found output ⌝ }
     {
         let delay = found.delay;
         let used = found.used;
         let offset = found.offset;
-        let mut words = AnswerWords::plain(8);
+        let mut words = AnswerWords::plain(code);
+        words.sequence = sequence;
         words.output = output;
         words.delay = delay;
         words.used = used;
-        words.offset = offset;
-        words
-    }
-
-    fn stepping(offset: Nanoseconds) -> AnswerWords
-        ensures { λ r. ⌜ r ≡ stepping offset ⌝ }
-    {
-        let mut words = AnswerWords::plain(15);
         words.offset = offset;
         words
     }
@@ -143,7 +140,18 @@ impl AnswerWords {
         words
     }
 
-    fn showing(s: Shows) -> AnswerWords
+    // Of the line, with the wipe count.
+    pub fn drifting(drift: Drift, wipes: u32) -> AnswerWords
+        ensures { λ r. ⌜ r ≡ driftWords drift wipes ⌝ }
+    {
+        match drift {
+            Drift::Refused(number) => AnswerWords::refusing(number.number()),
+            Drift::Line(line) => AnswerWords::lining(line, wipes),
+        }
+    }
+
+    // Of what the unit shows.
+    pub fn showing(s: Shows) -> AnswerWords
         ensures { λ r. ⌜ r ≡ showing s ⌝ }
     {
         let port = s.port;
@@ -155,65 +163,9 @@ impl AnswerWords {
         words.servo = servo_code(servo);
         words.output = output;
         words.now = s.now;
-        words.master = master;
+        words.master = ChosenWords::of(master);
         words.wipes = s.wipes;
         words.sequence = s.sequence;
         words
-    }
-
-    fn choosing(decision: Decision) -> AnswerWords
-        ensures { λ r. ⌜ r ≡ choosing decision ⌝ }
-    {
-        match decision {
-            Decision::Same(master) => AnswerWords::naming(1, master),
-            Decision::Changed(master) => AnswerWords::naming(2, master),
-        }
-    }
-
-    fn exchanging(said: Said, output: Ppb) -> AnswerWords
-        ensures { λ r. ⌜ r ≡ exchanging said output ⌝ }
-    {
-        match said {
-            Said::Held => AnswerWords::plain(3),
-            Said::Paired => AnswerWords::plain(4),
-            Said::Asked(sequence) => AnswerWords::asking(sequence),
-            Said::Stamped => AnswerWords::plain(6),
-            Said::Back => AnswerWords::plain(7),
-            Said::Neg => AnswerWords::plain(9),
-            Said::Long => AnswerWords::plain(10),
-            Said::Huge => AnswerWords::plain(11),
-            Said::HugeFaulty => AnswerWords::plain(12),
-            Said::Path => AnswerWords::plain(13),
-            Said::PathWiped => AnswerWords::plain(14),
-            Said::Step(offset) => AnswerWords::stepping(offset),
-            Said::Measured(found) => AnswerWords::measuring(found, output),
-        }
-    }
-
-    fn pulsing(pulse: Pulse) -> AnswerWords
-        ensures { λ r. ⌜ r ≡ pulsing pulse ⌝ }
-    {
-        match pulse {
-            Pulse::Valid => AnswerWords::plain(17),
-            Pulse::Invalid => AnswerWords::plain(18),
-            Pulse::Back => AnswerWords::plain(19),
-            Pulse::Range => AnswerWords::plain(20),
-            Pulse::Jump => AnswerWords::plain(21),
-        }
-    }
-
-    // Any answer.
-    pub fn of(answer: Answer) -> AnswerWords
-        ensures { λ r. ⌜ r ≡ answerWords answer ⌝ }
-    {
-        match answer {
-            Answer::Refused(number) => AnswerWords::refusing(number.number()),
-            Answer::Choice(decision) => AnswerWords::choosing(decision),
-            Answer::Exchange(said, output) => AnswerWords::exchanging(said, output),
-            Answer::Watch(pulse) => AnswerWords::pulsing(pulse),
-            Answer::Wiped => AnswerWords::plain(16),
-            Answer::Line(line, wipes) => AnswerWords::lining(line, wipes),
-            Answer::Shows(s) => AnswerWords::showing(s),
-        }
     }
 }

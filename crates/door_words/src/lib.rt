@@ -1,4 +1,3 @@
-// Messages, calls and answers as numbers, for C, where no enum crosses.
+// Messages and answers as numbers, for C, where no enum crosses.
 pub mod answers;
-pub mod calls;
 pub mod messages;

@@ -70,7 +70,7 @@ fn requester_in(body: Body) -> Port
     }
 }
 
-fn offer_in(body: Body) -> Offer
+pub fn offer_in(body: Body) -> Offer
     ensures { λ r. ⌜ r ≡ offerIn body ⌝ }
 {
     match body {

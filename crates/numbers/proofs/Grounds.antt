@@ -13,10 +13,6 @@ use Rattle.numbers.specs.Grounds.{Ground, firstOf}
 -- what a test of the code says of the same test in a definition
 pub ruleset tested = (lt-ltb, le-ltb, le-leb, lt-leb, eq-eqb, ne-eqb)
 
-pub none-due : firstOf [] ≡ Clear
-unfolding firstOf
-none-due = refl
-
 -- a ground that is due decides; one that is not leaves it to the rest
 pub bars : (g : Ground) (l : List Ground) → g .due ≡ true → firstOf (g ∷ l) ≡ Barred (g .refusal)
 unfolding firstOf

@@ -2,14 +2,14 @@
 use mathlib.Core.Path.{_≡_, refl, sym, ap, ap₂, _∙_, subst}
 use mathlib.Core.Bool.{Bool, true, false, not, cond}
 use Prim.Native.Nat.{ℕ, zero, suc, _+_, _*_, _-_, _/_, _%_, _^_, _≤_, _<_, min, max, zero-le}
-use native.Mathlib.Nat.{zero-add, add-zero, zero-mul, mul-zero, mul-add, add-mul, mul-assoc, mul-comm, zero-div, zero-mod, one-mul, mul-le-mul-left, mul-le-mul, div-le-self, mod-le}
+use native.Mathlib.Nat.{zero-add, add-zero, zero-mul, mul-zero, mul-add, add-mul, mul-assoc, mul-comm, zero-div, zero-mod, one-mul, mul-le-mul}
 use native.Mathlib.Omega.{arith}
 use lib.Dec.{T, leb, ltb, leb→le, le→leb, ltb→lt, lt→ltb, nltb→le, nleb→lt}
 use lib.IntN.{ℤ, pos, negsuc, negℤ, subℕ, natAbs, _+ℤ_, _-ℤ_, _*ℤ_}
 use lib.Signed.{_≤ℤ_, _<ℤ_, leZ, ltZ, mag, quotZ, remZ, nonNeg}
 use mir.Syntax.{w64}
 use mir.Val.{SFits, Fits, toZ, ofZ}
-use mir.Facts.{toZ-ofZ, toZ-pos, sfits-lit}
+use mir.Facts.{toZ-ofZ, toZ-pos}
 use Rattle.numbers.specs.Integers.{up, dn, Within, byMag}
 use Rattle.numbers.specs.Inner.{withSign}
 
@@ -32,9 +32,6 @@ dn-sub a b = go (ltb a b) (ltb→lt a b) (nltb→le a b)
     go : (t : Bool) → (T t → a < b) → (T (not t) → b ≤ a) → dn (cond t (negsuc (b - suc a)) (pos (a - b))) ≡ b - a
     go true f g = let h : a < b = f tt in omega arith
     go false f g = let h : b ≤ a = g tt in omega arith
-
-pub subZ : (a b : ℕ) → up (subℕ a b) + b ≡ a + dn (subℕ a b)
-subZ a b = omega (arith, up-sub a b, dn-sub a b)
 
 pub up-add : (x y : ℤ) → up (x +ℤ y) ≡ (up x + up y) - (dn x + dn y)
 up-add (pos a) (pos b) = omega arith
@@ -166,27 +163,6 @@ one-*ℤ x = ext _ _ (omega (arith, up-mul (pos 1) x, dn-mul (pos 1) x))
 pub neg-*ℤ : (x y : ℤ) → negℤ x *ℤ y ≡ negℤ (x *ℤ y)
 neg-*ℤ x y = ext _ _ (simp (up-neg, dn-neg, up-mul, dn-mul) (omega arith))
 
--- ---- the order's laws
-pub ≤ℤ-trans : {x y z : ℤ} → x ≤ℤ y → y ≤ℤ z → x ≤ℤ z
-≤ℤ-trans h k = ←le (omega (arith, parts-le h, parts-le k))
-
-pub ≤ℤ-antisym : {x y : ℤ} → x ≤ℤ y → y ≤ℤ x → x ≡ y
-≤ℤ-antisym {x} {y} h k = ext x y (omega (arith, parts-le h, parts-le k))
-
-pub ≤ℤ-total : (x y : ℤ) → Dec (x ≤ℤ y)
-≤ℤ-total x y = go (leZ x y) refl
-  where
-    go : (b : Bool) → leZ x y ≡ b → Dec (x ≤ℤ y)
-    go true e = yes (record { le = subst T (sym e) tt })
-    go false e = no (λ h. subst T e (h .le))
-
-pub +ℤ-mono : {x y u v : ℤ} → x ≤ℤ y → u ≤ℤ v → (x +ℤ u) ≤ℤ (y +ℤ v)
-+ℤ-mono {x} {y} {u} {v} h k = ←le (omega (arith, addZ x u, addZ y v, parts-le h, parts-le k))
-
-pub *ℤ-mono : (n : ℕ) {x y : ℤ} → x ≤ℤ y → (pos n *ℤ x) ≤ℤ (pos n *ℤ y)
-*ℤ-mono n {x} {y} h =
-    ←le (simp (up-mul, dn-mul) (omega (arith, mul-le-mul-left n (parts-le h .0), mul-le-mul-left n (parts-le h .1))))
-
 -- a bound on a product of two bounded numbers
 pub mul-bound : (x y : ℤ) {a b : ℕ} → up x ≤ a → dn x ≤ a → up y ≤ b → dn y ≤ b → (up (x *ℤ y) ≤ a * b) × (dn (x *ℤ y) ≤ a * b)
 mul-bound (pos m) (pos n) h h' k k' = (mul-le-mul h k, zero-le)
@@ -211,44 +187,15 @@ leZ-false (negsuc a) (negsuc b) e = let h : a < b = nleb→lt b a (subst (λ t. 
 pub back : {z : ℤ} → SFits w64 z → toZ w64 (ofZ w64 z) ≡ z
 back h = toZ-ofZ h
 
-pub within→ : (n : ℕ) (z : ℤ) → Within n z → (negℤ (pos n) ≤ℤ z) × (z ≤ℤ pos n)
-within→ n z w = (←le (omega (arith, up-neg (pos n), dn-neg (pos n))), ←le (omega arith))
-
-pub within← : (n : ℕ) (z : ℤ) → negℤ (pos n) ≤ℤ z → z ≤ℤ pos n → Within n z
-within← n z h k = omega (arith, parts-le h, parts-le k, up-neg (pos n), dn-neg (pos n))
-
 pub within-fits : {n : ℕ} {z : ℤ} → Within n z → n < 2 ^ 63 → SFits w64 z
 within-fits w h = ←fits (omega arith) (omega arith)
 
 pub ruleset int = (arith, le→, lt→, ltZ-true, ltZ-false, leZ-true, leZ-false, ←le, ←lt)
 
--- two numbers with the same bits are the same, as `==` tells
-pub same-bits : {y z : ℤ} → SFits w64 y → SFits w64 z → ofZ w64 y ≡ ofZ w64 z → y ≡ z
-same-bits f g e = sym (back f) ∙ ap (toZ w64) e ∙ back g
-
--- what `z == 0` tells
-pub is-zero : (z : ℤ) → SFits w64 z → ofZ w64 z ≡ 0 → up z + dn z ≡ 0
-is-zero z f e = let h : z ≡ pos 0 = same-bits f (sfits-lit tt) e in omega (arith, ap up h, ap dn h)
-
 pub not-zero : (z : ℤ) → (ofZ w64 z ≡ 0 → ⊥) → 0 < up z + dn z
 not-zero (pos zero) h = absurd (h refl)
 not-zero (pos (suc n)) h = omega arith
 not-zero (negsuc n) h = omega arith
-
-pub quot-fits : (z : ℤ) (d : ℕ) → SFits w64 z → SFits w64 (quotZ z (pos d))
-quot-fits z d f = ←fits (simp up-quot (omega (arith, fits→ f, div-le-self (up z) d))) (simp dn-quot (omega (arith, fits→ f, div-le-self (dn z) d)))
-
--- a divisor that is a variable above 0
-pub quot-fits-by : (x d : ℤ) → SFits w64 x → pos 1 ≤ℤ d → SFits w64 (quotZ x d)
-quot-fits-by x (pos n) f h = quot-fits x n f
-quot-fits-by x (negsuc n) f h = absurd (omega (arith, parts-le h))
-
-pub divides : (d : ℤ) → pos 1 ≤ℤ d → 0 < ofZ w64 d
-divides (pos n) h = omega (arith, parts-le h)
-divides (negsuc n) h = absurd (omega (arith, parts-le h))
-
-pub rem-fits : (z : ℤ) (d : ℕ) → SFits w64 z → SFits w64 (remZ z (pos d))
-rem-fits z d f = ←fits (simp up-rem (omega (arith, fits→ f, mod-le (up z) d))) (simp dn-rem (omega (arith, fits→ f, mod-le (dn z) d)))
 
 pub abs-parts : (z : ℤ) → natAbs z ≡ up z + dn z
 abs-parts (pos n) = omega arith
@@ -297,6 +244,3 @@ within-abs {z = z} w = omega (arith, abs-parts z, one-side z)
 
 pub within-mul : {a b : ℕ} {x y : ℤ} → Within a x → Within b y → Within (a * b) (x *ℤ y)
 within-mul {x = x} {y = y} h k = let m = mul-bound x y (h .below) (h .above) (k .below) (k .above) in record { above = m .1; below = m .0 }
-
-pub within-between : {n : ℕ} {l z : ℤ} → Within n l → negℤ l ≤ℤ z → z ≤ℤ l → Within n z
-within-between {l = l} w h k = omega (arith, parts-le h, parts-le k, up-neg l, dn-neg l)

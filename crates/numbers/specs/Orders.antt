@@ -1,9 +1,9 @@
--- For each call its refusals, in the order in which they are asked. When each is due is said where its rule is; what a call can't meet is `false`
--- for it.
+-- For each call its refusals, in the order in which they are asked. When each is due is said where its rule is.
+-- A list that several places ask takes all that is due as one (`Due`): a refusal more is a line here, and no place that cannot meet it is touched.
 use mathlib.Core.Bool.{Bool}
-use mathlib.Core.List.{List, [], _∷_, _++_}
+use mathlib.Core.List.{List, [], _∷_}
 use Rattle.numbers.specs.declared.refusal.Refusal.the-variants.{Short, Version, Kind, Length, Field, Suffix, Room, Settings, Now, Domain, Own, Alternate, Steps, Repeat, Full, NotMaster, Unmatched, Faulty, Correction, Tick, NotReady}
-use Rattle.numbers.specs.Grounds.{Ground, gives}
+use Rattle.numbers.specs.Grounds.{Ground, Due, gives}
 
 -- reading (rule 3.52); it asks for too few octets twice
 abbrev pub ofReading : (few version kind length short field suffix : Bool) → List Ground
@@ -21,38 +21,34 @@ ofReading few version kind length short field suffix =
 abbrev pub ofWriting : (field suffix length room : Bool) → List Ground
 ofWriting field suffix length room = gives Field field ∷ gives Suffix suffix ∷ gives Length length ∷ gives Room room ∷ []
 
--- a message handed over (rule 3.55): those of reading, 3 of a Delay_Req, 8 of a lent table that is not of five, and then those of its kind
-abbrev pub ofHanding : (reading : List Ground) (request table : Bool) (kind : List Ground) → List Ground
-ofHanding reading request table kind = reading ++ gives Kind request ∷ gives Settings table ∷ kind
-
 -- an Announce (rule 3.56): 9 to 15
-abbrev pub ofAnnounce : (now domain own alternate steps repeat full : Bool) → List Ground
-ofAnnounce now domain own alternate steps repeat full =
-    gives Now now
-    ∷ gives Domain domain
-    ∷ gives Own own
-    ∷ gives Alternate alternate
-    ∷ gives Steps steps
-    ∷ gives Repeat repeat
-    ∷ gives Full full
+abbrev pub ofAnnounce : Due → List Ground
+ofAnnounce due =
+    gives Now (due Now)
+    ∷ gives Domain (due Domain)
+    ∷ gives Own (due Own)
+    ∷ gives Alternate (due Alternate)
+    ∷ gives Steps (due Steps)
+    ∷ gives Repeat (due Repeat)
+    ∷ gives Full (due Full)
     ∷ []
 
 -- whatever is of the exchange, messages and requests alike: 5 and 9, 18, 10, 16, then 19, 17, 7
-abbrev pub ofExchange : (field now faulty domain master correction unmatched room : Bool) → List Ground
-ofExchange field now faulty domain master correction unmatched room =
-    gives Field field
-    ∷ gives Now now
-    ∷ gives Faulty faulty
-    ∷ gives Domain domain
-    ∷ gives NotMaster master
-    ∷ gives Correction correction
-    ∷ gives Unmatched unmatched
-    ∷ gives Room room
+abbrev pub ofExchange : Due → List Ground
+ofExchange due =
+    gives Field (due Field)
+    ∷ gives Now (due Now)
+    ∷ gives Faulty (due Faulty)
+    ∷ gives Domain (due Domain)
+    ∷ gives NotMaster (due NotMaster)
+    ∷ gives Correction (due Correction)
+    ∷ gives Unmatched (due Unmatched)
+    ∷ gives Room (due Room)
     ∷ []
 
 -- the bare time call (rule 3.62): 8 of a lent table that is not of five, 9
-abbrev pub ofTime : (table now : Bool) → List Ground
-ofTime table now = gives Settings table ∷ gives Now now ∷ []
+abbrev pub ofTime : Due → List Ground
+ofTime due = gives Settings (due Settings) ∷ gives Now (due Now) ∷ []
 
 -- a second pulse (rule 3.63): 20
 abbrev pub ofTick : (outside : Bool) → List Ground

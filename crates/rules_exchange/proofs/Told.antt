@@ -23,14 +23,6 @@ use Rattle.rules_delays.proofs.Tests.{never}
 
 -- ---- a refusal that is due, or what the row says
 module _ (x : Exchange) (e : Event) where
-  pub told-barred : (n : Refusal) → firstOf (groundsOf x e) ≡ Barred n → told x e ≡ refused n x
-  unfolding told
-  told-barred n h = rw h
-
-  pub told-clear : firstOf (groundsOf x e) ≡ Clear → told x e ≡ tellsOf x e
-  unfolding told
-  told-clear h = rw h
-
   -- CORRECTION comes first; UNMATCHED is what the row says by itself
   pub told-is : told x e ≡ cond (correctionIn e) (refused Correction x) (tellsOf x e)
   unfolding told firstOf tellsOf
@@ -51,19 +43,6 @@ module _ (x : Exchange) (e : Event) where
   pub told-row : (r : Row) → correctionIn e ≡ false → rowOf x e ≡ r → told x e ≡ follows x (local e) r
   unfolding tellsOf
   told-row r h k = told-is ∙ rw (h, k)
-
-  pub told-unmatched : correctionIn e ≡ false → unmatchedOf x e ≡ true → told x e ≡ refused Unmatched x
-  unfolding tellsOf
-  told-unmatched h k = told-is ∙ rw h (go (rowOf x e) k)
-    where
-      go : (r : Row) → isUnmatched r ≡ true → follows x (local e) r ≡ refused Unmatched x
-      go unmatched k = refl
-      go (syncIs s h) k = absurd (never k)
-      go (requestIs s h) k = absurd (never k)
-      go (measures forward back) k = absurd (never k)
-
-  pub told-tells : correctionIn e ≡ false → told x e ≡ tellsOf x e
-  told-tells h = told-is ∙ rw h
 
 -- ---- the states of the halves, from the memory
 pub record Waits (s : Sync) (n : ℕ) : Type 0 where

@@ -4,12 +4,12 @@ use mathlib.Core.List.{List}
 use Prim.Native.Nat.{ℕ, _+_}
 use lib.Dec.{leb, ltb}
 use lib.IntN.{ℤ, pos, natAbs, _+ℤ_, _-ℤ_}
-use Rattle.numbers.specs.Grounds.{Ground, firstOf}
+use Rattle.numbers.specs.Grounds.{Ground, Due, firstOf, noneDue, dueWith}
 use Rattle.numbers.specs.Orders.{ofExchange}
 use Rattle.numbers.specs.Stamps.{noStamp, soundOf, belowOf}
 use Rattle.numbers.specs.declared.stamp.Stamp.{Stamp}
 use Rattle.numbers.specs.declared.refusal.Refusal.{Refusal}
-use Rattle.numbers.specs.declared.refusal.Refusal.the-variants.{Unmatched}
+use Rattle.numbers.specs.declared.refusal.Refusal.the-variants.{Correction, Unmatched}
 use Rattle.numbers.specs.declared.ruling.Ruling.{Ruling}
 use Rattle.numbers.specs.declared.ruling.Ruling.the-variants.{Clear, Barred}
 use Rattle.rules_exchange.specs.declared.Last.{Last}
@@ -140,9 +140,16 @@ isUnmatched (measures forward back) = false
 abbrev pub unmatchedOf : Exchange → Event → Bool
 unmatchedOf x e = isUnmatched (rowOf x e)
 
+-- of the event alone, whatever is held; and with what is held
+abbrev pub eventDue : Event → Due → Due
+eventDue e due = dueWith Correction (correctionIn e) due
+
+abbrev pub exchangeDue : Exchange → Event → Due → Due
+exchangeDue x e due = eventDue e (dueWith Unmatched (unmatchedOf x e) due)
+
 -- the others of the order are the unit's
 abbrev pub groundsOf : Exchange → Event → List Ground
-groundsOf x e = ofExchange false false false false false (correctionIn e) (unmatchedOf x e) false
+groundsOf x e = ofExchange (exchangeDue x e noneDue)
 
 -- ---- the whole: the first refusal that is due, or what the row says
 abbrev pub follows : Exchange → Local → Row → Answered

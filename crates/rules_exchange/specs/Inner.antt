@@ -6,6 +6,10 @@ use Rattle.wire_layout.specs.declared.message.Port.{Port}
 use Rattle.rules_exchange.specs.declared.halves.Sync.{Sync}
 use Rattle.rules_exchange.specs.declared.halves.Request.{Request}
 use Rattle.rules_exchange.specs.Halves.{SyncHalf, noSync, awaits, knows, RequestHalf, noRequest, asked, stamped, syncHalf, requestHalf}
+use Rattle.rules_exchange.specs.declared.Accepted.{Accepted}
+use Rattle.rules_exchange.specs.declared.brief.Brief.{Brief}
+use Rattle.rules_exchange.specs.declared.said.Said.{Said}
+use Rattle.rules_exchange.specs.Said.{codeOf, wipesOf, faultsOf, steersOf, sequenceIn, foundIn}
 use Rattle.rules_exchange.specs.Table.{samePort}
 
 -- t1 is awaited for this sequenceId
@@ -50,3 +54,11 @@ partners s r n p own = cond (ready s) (cond (answerable r n) (samePort p own) fa
 
 abbrev pub partnersOf : Sync → Request → ℕ → Port → Port → Bool
 partnersOf s r n p own = partners (syncHalf s) (requestHalf r) n p own
+
+-- ---- what an answer says, in brief
+abbrev pub briefWith : (code : ℕ) (wipes faults steers : Bool) (sequence : ℕ) (found : Accepted) → Brief
+briefWith code wipes faults steers sequence found =
+    record { code = code; wipes = wipes; faults = faults; steers = steers; sequence = sequence; found = found }
+
+abbrev pub briefOf : Said → Brief
+briefOf s = briefWith (codeOf s) (wipesOf s) (faultsOf s) (steersOf s) (sequenceIn s) (foundIn s)

@@ -1,5 +1,6 @@
-// The exchange: one method for each event, by the table of specs/Table.antt (rules 7.1 to 7.24).
+// The exchange: one method for each event, by the table of specs/Table.antt (rules 7.1 to 7.24). The verdicts on a finished measurement are in said.
 // An answer that wipes (Back, PathWiped, Step) says so and leaves the emptying to the caller: a wipe empties more than the exchange.
+pub mod brief;
 pub mod halves;
 pub mod refusals;
 pub mod said;
@@ -12,18 +13,11 @@ use numbers::stamp::Stamp;
 use numbers::stamp::below;
 use numbers::units::Nanoseconds;
 use rules_delays::Delays;
-use rules_measure::Sum;
-use rules_measure::Times;
-use rules_measure::huge;
-use rules_measure::is_step;
-use rules_measure::judge_sum;
 use said::Said;
 use wire_layout::message::Port;
 ghost use mathlib.Core.Path.{_≡_};
-ghost use Prim.Native.Nat.{_^_};
-ghost use Rattle.numbers.specs.Integers.{Within};
 ghost use Rattle.rules_exchange.specs.Table.{sync, followUp, requested, sent, delayResp};
-ghost use Rattle.rules_exchange.specs.Events.{freshExchange, saidWith, refused, withRows, stamp, isAbove, stampTaken, hugeAgain, pathAgain, accepted, judged, finished, told};
+ghost use Rattle.rules_exchange.specs.Events.{freshExchange, saidWith, refused, stamp, isAbove, stampTaken, told};
 
 // The last local stamp: the last t2 or t3 taken since the wipe.
 #[repr(C)]
@@ -99,7 +93,7 @@ impl Exchange {
         }
     }
 
-    fn say(self, said: Said) -> Answered
+    pub(crate) fn say(self, said: Said) -> Answered
         ensures { λ r. ⌜ r ≡ saidWith said self ⌝ }
     {
         Answered {
@@ -122,91 +116,6 @@ impl Exchange {
         };
         next.last = newest;
         next.say(said)
-    }
-
-    // One HUGE more: the unit is faulty after three in a row (rule 7.16).
-    fn huge_again(mut self) -> Answered
-        ensures { λ r. ⌜ r ≡ hugeAgain self ⌝ }
-    {
-        self.path = 0;
-        if self.huge < 2 {
-            self.huge = self.huge + 1;
-            return self.say(Said::Huge);
-        }
-        self.huge = 3;
-        self.say(Said::HugeFaulty)
-    }
-
-    // One PATH more: the third in a row wipes.
-    fn path_again(mut self) -> Answered
-        ensures { λ r. ⌜ r ≡ pathAgain self ⌝ }
-    {
-        self.huge = 0;
-        if self.path < 2 {
-            self.path = self.path + 1;
-            return self.say(Said::Path);
-        }
-        self.path = 3;
-        self.say(Said::PathWiped)
-    }
-
-    // NEG or LONG: both rows are broken.
-    fn break_rows(mut self, said: Said) -> Answered
-        ensures { λ r. ⌜ r ≡ saidWith said (withRows self 0 0) ⌝ }
-    {
-        self.huge = 0;
-        self.path = 0;
-        self.say(said)
-    }
-
-    // Neither HUGE nor PATH: the delay is accepted and the offset given, unless that is a STEP.
-    fn accept(mut self, forward: Nanoseconds, delay: u32) -> Answered
-        requires { ⌜ Within (2 ^ 33) (forward .0) ⌝ }
-        ensures { λ r. ⌜ r ≡ accepted self (forward .0) delay ⌝ }
-    {
-        let before = self.delays;
-        let delays = before.filter(delay);
-        let used = delays.used;
-        let offset = forward.0 - (used as i64);
-        if is_step(forward, used) {
-            return self.say(Said::Step(Nanoseconds(offset)));
-        }
-        self.delays = delays;
-        self.huge = 0;
-        self.path = 0;
-        let found = Accepted {
-            delay: Nanoseconds(delay as i64),
-            used: Nanoseconds(used as i64),
-            offset: Nanoseconds(offset),
-        };
-        self.say(Said::Measured(found))
-    }
-
-    // HUGE before PATH.
-    fn judge(self, forward: Nanoseconds, delay: u32) -> Answered
-        ensures { λ r. ⌜ r ≡ judged self (forward .0) delay ⌝ }
-    {
-        if huge(forward, delay) {
-            return self.huge_again();
-        }
-        let delays = self.delays;
-        if delays.judge_path(delay) {
-            return self.path_again();
-        }
-        self.accept(forward, delay)
-    }
-
-    // A finished measurement spends both halves, whatever comes of it.
-    fn finish(mut self, times: Times) -> Answered
-        ensures { λ r. ⌜ r ≡ finished self (times .forward .0) (times .sum .0) ⌝ }
-    {
-        self.sync = Sync::fresh();
-        self.request = Request::fresh();
-        match judge_sum(times.sum) {
-            Sum::Neg => self.break_rows(Said::Neg),
-            Sum::Long => self.break_rows(Said::Long),
-            Sum::Delay(delay) => self.judge(times.forward, delay),
-        }
     }
 
     // A Sync, taken at t2. A one-step Sync carries t1 itself; of a two-step one the Follow_Up brings it.

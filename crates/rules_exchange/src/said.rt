@@ -1,6 +1,28 @@
-// What an event that was taken comes to.
+// What an event that was taken comes to: the answers, what each says to whoever reads it, and the verdicts on a finished measurement.
 use crate::Accepted;
+use crate::Answered;
+use crate::Exchange;
+use crate::brief::Brief;
+use crate::brief::asks;
+use crate::brief::faults;
+use crate::brief::says;
+use crate::brief::steers;
+use crate::brief::steps;
+use crate::brief::wipes;
+use crate::halves::Request;
+use crate::halves::Sync;
 use numbers::units::Nanoseconds;
+use rules_measure::Sum;
+use rules_measure::Times;
+use rules_measure::huge;
+use rules_measure::is_step;
+use rules_measure::judge_sum;
+ghost use mathlib.Core.Path.{_≡_};
+ghost use Prim.Native.Nat.{_^_};
+ghost use Rattle.numbers.specs.Integers.{Within};
+ghost use Rattle.rules_exchange.specs.Said.{codeOf, wipesOf, faultsOf, steersOf, sequenceIn, foundIn};
+ghost use Rattle.rules_exchange.specs.Inner.{briefOf};
+ghost use Rattle.rules_exchange.specs.Events.{saidWith, withRows, hugeAgain, pathAgain, accepted, judged, finished};
 
 pub enum Said {
     Held, // the Sync is held
@@ -16,4 +38,158 @@ pub enum Said {
     PathWiped, // the third in a row: wipes
     Step(Nanoseconds), // this offset is over its limit: wipes
     Measured(Accepted), // accepted
+}
+
+impl Said {
+    // The one place where the code goes answer by answer: all else asks for a part of it.
+    fn brief(self) -> Brief
+        ensures { λ r. ⌜ r ≡ briefOf self ⌝ }
+    {
+        match self {
+            Said::Held => says(3),
+            Said::Paired => says(4),
+            Said::Asked(sequence) => asks(5, sequence),
+            Said::Stamped => says(6),
+            Said::Back => wipes(7),
+            Said::Neg => says(9),
+            Said::Long => says(10),
+            Said::Huge => says(11),
+            Said::HugeFaulty => faults(12),
+            Said::Path => says(13),
+            Said::PathWiped => wipes(14),
+            Said::Step(offset) => steps(15, offset),
+            Said::Measured(found) => steers(8, found),
+        }
+    }
+
+    // Its code at the door.
+    pub fn code(self) -> u8
+        ensures { λ r. ⌜ r ≡ codeOf self ⌝ }
+    {
+        self.brief().code
+    }
+
+    // The unit is wiped.
+    pub fn wipes(self) -> bool
+        ensures { λ r. ⌜ r ≡ wipesOf self ⌝ }
+    {
+        self.brief().wipes
+    }
+
+    // The unit becomes faulty.
+    pub fn faults(self) -> bool
+        ensures { λ r. ⌜ r ≡ faultsOf self ⌝ }
+    {
+        self.brief().faults
+    }
+
+    // An accepted measurement, which steers the clock.
+    pub fn steers(self) -> bool
+        ensures { λ r. ⌜ r ≡ steersOf self ⌝ }
+    {
+        self.brief().steers
+    }
+
+    // The sequenceId of the request that was written; 0 where none was.
+    pub fn sequence(self) -> u16
+        ensures { λ r. ⌜ r ≡ sequenceIn self ⌝ }
+    {
+        self.brief().sequence
+    }
+
+    // What was measured, of a STEP the offset alone; 0 where nothing was.
+    pub fn found(self) -> Accepted
+        ensures { λ r. ⌜ r ≡ foundIn self ⌝ }
+    {
+        let brief = self.brief();
+        brief.found
+    }
+}
+
+// The verdicts. Each finished measurement gets one of them.
+impl Exchange {
+    // One HUGE more: the unit is faulty after three in a row (rule 7.16).
+    fn huge_again(mut self) -> Answered
+        ensures { λ r. ⌜ r ≡ hugeAgain self ⌝ }
+    {
+        self.path = 0;
+        if self.huge < 2 {
+            self.huge = self.huge + 1;
+            return self.say(Said::Huge);
+        }
+        self.huge = 3;
+        self.say(Said::HugeFaulty)
+    }
+
+    // One PATH more: the third in a row wipes.
+    fn path_again(mut self) -> Answered
+        ensures { λ r. ⌜ r ≡ pathAgain self ⌝ }
+    {
+        self.huge = 0;
+        if self.path < 2 {
+            self.path = self.path + 1;
+            return self.say(Said::Path);
+        }
+        self.path = 3;
+        self.say(Said::PathWiped)
+    }
+
+    // NEG or LONG: both rows are broken.
+    fn break_rows(mut self, said: Said) -> Answered
+        ensures { λ r. ⌜ r ≡ saidWith said (withRows self 0 0) ⌝ }
+    {
+        self.huge = 0;
+        self.path = 0;
+        self.say(said)
+    }
+
+    // Neither HUGE nor PATH: the delay is accepted and the offset given, unless that is a STEP.
+    fn accept(mut self, forward: Nanoseconds, delay: u32) -> Answered
+        requires { ⌜ Within (2 ^ 33) (forward .0) ⌝ }
+        ensures { λ r. ⌜ r ≡ accepted self (forward .0) delay ⌝ }
+    {
+        let before = self.delays;
+        let delays = before.filter(delay);
+        let used = delays.used;
+        let offset = forward.0 - (used as i64);
+        if is_step(forward, used) {
+            return self.say(Said::Step(Nanoseconds(offset)));
+        }
+        self.delays = delays;
+        self.huge = 0;
+        self.path = 0;
+        let found = Accepted {
+            delay: Nanoseconds(delay as i64),
+            used: Nanoseconds(used as i64),
+            offset: Nanoseconds(offset),
+        };
+        self.say(Said::Measured(found))
+    }
+
+    // HUGE before PATH.
+    fn judge(self, forward: Nanoseconds, delay: u32) -> Answered
+        ensures { λ r. ⌜ r ≡ judged self (forward .0) delay ⌝ }
+    {
+        if huge(forward, delay) {
+            return self.huge_again();
+        }
+        let delays = self.delays;
+        if delays.judge_path(delay) {
+            return self.path_again();
+        }
+        self.accept(forward, delay)
+    }
+
+    // A finished measurement spends both halves, whatever comes of it.
+    pub(crate) fn finish(mut self, times: Times) -> Answered
+        ensures { λ r. ⌜ r ≡ finished self (times .forward .0) (times .sum .0) ⌝ }
+    {
+        self.sync = Sync::fresh();
+        self.request = Request::fresh();
+        match judge_sum(times.sum) {
+            Sum::Neg => self.break_rows(Said::Neg),
+            Sum::Long => self.break_rows(Said::Long),
+            Sum::Delay(delay) => self.judge(times.forward, delay),
+        }
+    }
 }

@@ -7,7 +7,6 @@ use lib.Dec.{leb, eqb}
 use lib.ListN.{length, getD, set, length-set}
 use lib.Seq.{getD-set-same, getD-set-other}
 use borrow.Author.Tests.{ltb-true, ltb-false, leb-false, eqb-false, not-true}
-use Rattle.numbers.specs.declared.refusal.Refusal.{Refusal}
 use Rattle.numbers.specs.declared.ruling.Ruling.{Ruling}
 use Rattle.numbers.specs.declared.ruling.Ruling.the-variants.{Clear, Barred}
 use Rattle.numbers.specs.Grounds.{firstOf}
@@ -73,18 +72,6 @@ module _ (t : Table) (m : Announce) (interval now : ℕ) where
           let n : countOf (liveOf now interval) (t .records) < length (t .records) = rw five (leb-false 5 (countOf (liveOf now interval) (t .records)) g) in
           let h = has-room (liveOf now interval) (absent now interval) (opposite now interval) (t .records) n in
           record { unknown = ltb-false _ _ e; free = refl; inside = omega arith; after = refl }
-
--- where a refusal is due it is the answer and the table stays; where none is, the Announce is accepted
-module _ (t : Table) (m : Announce) (domain : ℕ) (own : Port) (a last now : ℕ) where
-  pub admitted-barred : (r : Refusal) → firstOf (groundsOf t m domain own a last now) ≡ Barred r
-      → admittedOf t m domain own a last now ≡ record { answer = Refused r; table = t }
-  unfolding admittedOf
-  admitted-barred r e = rw e
-
-  pub admitted-clear : firstOf (groundsOf t m domain own a last now) ≡ Clear
-      → admittedOf t m domain own a last now ≡ acceptedOf (t .records) m (intervalOf a) now
-  unfolding admittedOf
-  admitted-clear e = rw e
 
 -- THEOREM. The three ways in which an admission ends.
 pub outcome : (t : Table) (m : Announce) (domain : ℕ) (own : Port) (a last now : ℕ) → length (t .records) ≡ 5

@@ -2,10 +2,10 @@
 use mathlib.Core.Path.{_≡_, refl}
 use mathlib.Core.Bool.{true}
 use mathlib.Core.List.{[], _∷_}
+use mathlib.Core.Option.{some}
 use Prim.Native.Nat.{ℕ}
 use lib.IntN.{pos}
 use Rattle.rules_masters.specs.declared.record.Record.{Record}
-use Rattle.rules_masters.specs.declared.choice.Choice.the-variants.{Master}
 use Rattle.rules_masters.specs.Records.{freshRecord, qualifiedOf}
 use Rattle.rules_masters.specs.Comparison.{smaller, betterOf}
 use Rattle.rules_masters.specs.Choosing.{those, keptAmong, choiceAmong, choiceOf}
@@ -58,7 +58,7 @@ abbrev pub C : Record
 C = master 3 25 100 0
 
 -- in two orders of the table
-pub no-maximum : (choiceOf (A ∷ B ∷ C ∷ freshRecord ∷ freshRecord ∷ []) 0 0 ≡ Master C) × (choiceOf (A ∷ C ∷ B ∷ freshRecord ∷ freshRecord ∷ []) 0 0 ≡ Master B)
+pub no-maximum : (choiceOf (A ∷ B ∷ C ∷ freshRecord ∷ freshRecord ∷ []) 0 0 ≡ some C) × (choiceOf (A ∷ C ∷ B ∷ freshRecord ∷ freshRecord ∷ []) 0 0 ≡ some B)
 unfolding choiceOf choiceAmong those keptAmong qualifiedOf betterOf smaller
 no-maximum = (refl, refl)
 

@@ -1,5 +1,5 @@
--- Laws of the masters. For callers: Times, Comparing, Choices, Admissions, Keys; the example of rule 5.15: Examples. The rest serves these and the proofs
--- of the code.
+-- Laws of the masters. For callers: Times, Comparing, Choices, Admissions, Keys; for calls that read the records one by one: Standings, Candidates; the
+-- example of rule 5.15: Examples. The rest serves these and the proofs of the code.
 pub mod Times
 pub mod Smaller
 pub mod Comparing
@@ -11,5 +11,6 @@ pub mod Seating
 pub mod Admissions
 pub mod Keeping
 pub mod Order
-pub mod Turns
 pub mod Choices
+pub mod Standings
+pub mod Candidates

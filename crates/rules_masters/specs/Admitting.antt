@@ -4,9 +4,10 @@ use mathlib.Core.Bool.{Bool, cond, not, _&&_}
 use mathlib.Core.List.{List}
 use lib.Dec.{ltb, leb, eqb}
 use lib.ListN.{getD, set}
+use Rattle.numbers.specs.declared.refusal.Refusal.the-variants.{Now, Domain, Own, Alternate, Steps, Repeat, Full}
 use Rattle.numbers.specs.declared.ruling.Ruling.{Ruling}
 use Rattle.numbers.specs.declared.ruling.Ruling.the-variants.{Clear, Barred}
-use Rattle.numbers.specs.Grounds.{Ground, firstOf}
+use Rattle.numbers.specs.Grounds.{Ground, firstOf, noneDue, dueWith}
 use Rattle.numbers.specs.Orders.{ofAnnounce}
 use Rattle.wire_layout.specs.declared.message.Port.{Port}
 use Rattle.rules_masters.specs.declared.record.Announce.{Announce}
@@ -25,13 +26,13 @@ alternateOf m = eqb (m .header .flags / 256 % 2) 1
 abbrev pub groundsWith : Announce → ℕ → Port → ℕ → ℕ → (repeat full : Bool) → List Ground
 groundsWith m domain own last now repeat full =
     ofAnnounce
-    (ltb now last)
-    (not (eqb (m .header .domain) domain))
-    (eqb (m .header .source .clock) (own .clock))
-    (alternateOf m)
-    (leb 255 (m .offer .steps))
-    repeat
-    full
+    (dueWith Now (ltb now last)
+    (dueWith Domain (not (eqb (m .header .domain) domain))
+    (dueWith Own (eqb (m .header .source .clock) (own .clock))
+    (dueWith Alternate (alternateOf m)
+    (dueWith Steps (leb 255 (m .offer .steps))
+    (dueWith Repeat repeat
+    (dueWith Full full noneDue)))))))
 
 module _ (t : List Record) (m : Announce) (interval now : ℕ) where
   -- the place of the sender's live record; 5 where it has none

@@ -5,8 +5,6 @@ use mathlib.Core.List.{List, [], _∷_, map}
 use mathlib.Core.Option.{Option, none, some}
 use lib.ListN.{getD}
 use Rattle.rules_masters.specs.declared.record.Record.{Record}
-use Rattle.rules_masters.specs.declared.choice.Choice.{Choice}
-use Rattle.rules_masters.specs.declared.choice.Choice.the-variants.{None, Master}
 use Rattle.rules_masters.specs.Records.{intervalOf, qualifiedOf, freshRecord}
 use Rattle.rules_masters.specs.Comparison.{betterOf}
 
@@ -34,10 +32,6 @@ order = 0 ∷ 1 ∷ 2 ∷ 3 ∷ 4 ∷ []
 abbrev pub inOrder : List Record → List Record
 inOrder t = map (λ place. getD t place freshRecord) order
 
-abbrev pub asChoice : Option Record → Choice
-asChoice none = None
-asChoice (some r) = Master r
-
--- among the qualified, place by place
-unfoldable pub choiceOf : List Record → ℕ → ℕ → Choice
-choiceOf t now a = asChoice (choiceAmong betterOf (those (qualifiedOf now (intervalOf a)) (inOrder t)))
+-- among the qualified, place by place; none is NONE
+unfoldable pub choiceOf : List Record → ℕ → ℕ → Option Record
+choiceOf t now a = choiceAmong betterOf (those (qualifiedOf now (intervalOf a)) (inOrder t))

@@ -2,10 +2,9 @@
 use Prim.Native.Nat.{ℕ}
 use mathlib.Core.Bool.{Bool, true, false, cond, not, _&&_}
 use mathlib.Core.List.{List}
+use mathlib.Core.Option.{Option, none, some}
 use Rattle.wire_layout.specs.declared.message.Port.{Port}
 use Rattle.rules_masters.specs.declared.record.Record.{Record}
-use Rattle.rules_masters.specs.declared.choice.Choice.{Choice}
-use Rattle.rules_masters.specs.declared.choice.Choice.the-variants.{None, Master}
 use Rattle.rules_masters.specs.declared.chosen.Chosen.{Chosen}
 use Rattle.rules_masters.specs.declared.chosen.Decision.{Decision}
 use Rattle.rules_masters.specs.declared.chosen.Decision.the-variants.{Same, Changed}
@@ -17,9 +16,9 @@ abbrev pub freshChosen : Chosen
 freshChosen = record { some = false; sender = record { clock = 0; number = 0 } }
 
 -- the master is the sender of the record chosen
-abbrev pub chosenOf : Choice → Chosen
-chosenOf None = freshChosen
-chosenOf (Master r) = record { some = true; sender = r .announce .header .source }
+abbrev pub chosenOf : Option Record → Chosen
+chosenOf none = freshChosen
+chosenOf (some r) = record { some = true; sender = r .announce .header .source }
 
 -- the master that the choice at `now` gives over this table; a is the announce exponent
 abbrev pub chosenAt : List Record → ℕ → ℕ → Chosen

@@ -1,10 +1,12 @@
 // The admission of an Announce into the table.
 ghost use mathlib.Core.Path.{_≡_};
 ghost use Rattle.rules_masters.specs.Admitting.{alternateOf, admittedOf};
-ghost use Rattle.rules_masters.specs.Inner.{barredOf, seatedOf};
+ghost use Rattle.rules_masters.specs.Inner.{barredOf, seatIn, seatedOf};
 use crate::record::Announce;
 use crate::record::Record;
 use crate::record::interval;
+use crate::seats::seat;
+use crate::standing::Seat;
 use crate::table::Table;
 use numbers::refusal::Refusal;
 use numbers::ruling::Ruling;
@@ -31,7 +33,7 @@ fn alternate(announce: Announce) -> bool
 }
 
 // The refusals that need no table, in the order of rule 3.56.
-fn barred(announce: Announce, domain: u8, own: Port, last: u64, now: u64) -> Ruling
+pub fn barred(announce: Announce, domain: u8, own: Port, last: u64, now: u64) -> Ruling
     ensures { λ r. ⌜ r ≡ barredOf announce domain own last now ⌝ }
 {
     if now < last {
@@ -52,35 +54,50 @@ fn barred(announce: Announce, domain: u8, own: Port, last: u64, now: u64) -> Rul
     Ruling::Clear
 }
 
+// The seat that the table has for an Announce; each record is read once.
+fn seat_in(table: Table, sender: Port, sequence: u16, now: u64, interval: u32) -> Seat
+    ensures { λ r. ⌜ r ≡ seatIn (table .records) sender sequence now interval ⌝ }
+{
+    let r0 = table.records[0];
+    let r1 = table.records[1];
+    let r2 = table.records[2];
+    let r3 = table.records[3];
+    let r4 = table.records[4];
+    seat(
+        r0.stands(sender, sequence, now, interval),
+        r1.stands(sender, sequence, now, interval),
+        r2.stands(sender, sequence, now, interval),
+        r3.stands(sender, sequence, now, interval),
+        r4.stands(sender, sequence, now, interval),
+    )
+}
+
 // The refusals that look into the table; an Announce that none of them meets takes its place there.
-fn seat(mut table: Table, announce: Announce, interval: u32, now: u64) -> Admitted
+fn settle(mut table: Table, announce: Announce, interval: u32, now: u64) -> Admitted
     ensures { λ r. ⌜ r ≡ seatedOf table announce interval now ⌝ }
 {
-    let home = table.home(announce.header.source, now, interval);
-    if home < 5 {
-        let known = table.records[home];
-        if known.announce.header.sequence == announce.header.sequence {
-            return Admitted {
-                answer: Answer::Refused(Refusal::Repeat),
-                table,
-            };
-        }
-        table.records[home] = known.renewed(announce, now);
+    let sender = announce.header.source;
+    let seat = seat_in(table, sender, announce.header.sequence, now, interval);
+    let at = seat.at;
+    if seat.barred {
+        let answer = if seat.known {
+            Answer::Refused(Refusal::Repeat)
+        } else {
+            Answer::Refused(Refusal::Full)
+        };
+        return Admitted { answer, table };
+    }
+    if seat.known {
+        let record = table.records[at];
+        table.records[at] = record.renewed(announce, now);
         return Admitted {
-            answer: Answer::Renewed(home),
+            answer: Answer::Renewed(at),
             table,
         };
     }
-    let free = table.free(now, interval);
-    if free < 5 {
-        table.records[free] = Record::entered(announce, now);
-        return Admitted {
-            answer: Answer::Entered(free),
-            table,
-        };
-    }
+    table.records[at] = Record::entered(announce, now);
     Admitted {
-        answer: Answer::Refused(Refusal::Full),
+        answer: Answer::Entered(at),
         table,
     }
 }
@@ -102,6 +119,6 @@ pub fn admit(
             answer: Answer::Refused(refusal),
             table,
         },
-        Ruling::Clear => seat(table, announce, interval(a), now),
+        Ruling::Clear => settle(table, announce, interval(a), now),
     }
 }

@@ -1,10 +1,7 @@
 // The master chosen, as it is held between choices.
 ghost use mathlib.Core.Path.{_≡_};
-ghost use Rattle.rules_masters.specs.Holding.{freshChosen, chosenOf, chosenAt, sameMasterOf, isMaster, decisionOf};
-use crate::choice::Choice;
-use crate::choice::choose;
+ghost use Rattle.rules_masters.specs.Holding.{freshChosen, sameMasterOf, isMaster, decisionOf};
 use crate::record::same_key;
-use crate::table::Table;
 use wire_layout::message::Port;
 
 // None, or the master with this sender.
@@ -32,19 +29,6 @@ impl Chosen {
         Chosen {
             some: false,
             sender,
-        }
-    }
-
-    // What a choice leaves to be held.
-    pub fn made(choice: Choice) -> Chosen
-        ensures { λ r. ⌜ r ≡ chosenOf choice ⌝ }
-    {
-        match choice {
-            Choice::None => Chosen::fresh(),
-            Choice::Master(record) => {
-                let sender = record.announce.header.source;
-                Chosen { some: true, sender }
-            }
         }
     }
 
@@ -77,11 +61,4 @@ impl Chosen {
         }
         false
     }
-}
-
-// The master that the choice at `now` gives over this table; a is the announce exponent.
-pub fn chosen_at(table: Table, now: u64, a: u8) -> Chosen
-    ensures { λ r. ⌜ r ≡ chosenAt (table .records) now a ⌝ }
-{
-    Chosen::made(choose(table, now, a))
 }

@@ -1,13 +1,12 @@
 // The comparison of two masters. Over all records it is no order: proofs/Examples.antt has three that go round.
 ghost use mathlib.Core.Path.{_≡_};
-ghost use Rattle.rules_masters.specs.Comparison.{smaller, merits, nearness, betterOf};
-use crate::record::Announce;
-use crate::record::Record;
-use wire_layout::message::Offer;
+ghost use Rattle.rules_masters.specs.Comparison.{smaller};
+ghost use Rattle.rules_masters.specs.Inner.{meritsIn, nearnessIn, beatsOf};
+use crate::candidate::Candidate;
 
 // Which of two grandmasters wins.
-fn finer(a: Offer, b: Offer) -> bool
-    ensures { λ r. ⌜ r ≡ smaller (merits a) (merits b) ⌝ }
+fn finer(a: Candidate, b: Candidate) -> bool
+    ensures { λ r. ⌜ r ≡ smaller (meritsIn a) (meritsIn b) ⌝ }
 {
     if a.priority1 != b.priority1 {
         return a.priority1 < b.priority1;
@@ -28,26 +27,24 @@ fn finer(a: Offer, b: Offer) -> bool
 }
 
 // Which of two ways to one grandmaster wins.
-fn nearer(a: Announce, b: Announce) -> bool
-    ensures { λ r. ⌜ r ≡ smaller (nearness a) (nearness b) ⌝ }
+fn nearer(a: Candidate, b: Candidate) -> bool
+    ensures { λ r. ⌜ r ≡ smaller (nearnessIn a) (nearnessIn b) ⌝ }
 {
-    if a.offer.steps != b.offer.steps {
-        return a.offer.steps < b.offer.steps;
+    if a.steps != b.steps {
+        return a.steps < b.steps;
     }
-    if a.header.source.clock != b.header.source.clock {
-        return a.header.source.clock < b.header.source.clock;
+    if a.clock != b.clock {
+        return a.clock < b.clock;
     }
-    a.header.source.number < b.header.source.number
+    a.number < b.number
 }
 
 // a is better than b.
-pub fn better(a: Record, b: Record) -> bool
-    ensures { λ r. ⌜ r ≡ betterOf a b ⌝ }
+pub fn better(a: Candidate, b: Candidate) -> bool
+    ensures { λ r. ⌜ r ≡ beatsOf a b ⌝ }
 {
-    let x = a.announce;
-    let y = b.announce;
-    if x.offer.grandmaster == y.offer.grandmaster {
-        return nearer(x, y);
+    if a.grandmaster == b.grandmaster {
+        return nearer(a, b);
     }
-    finer(x.offer, y.offer)
+    finer(a, b)
 }

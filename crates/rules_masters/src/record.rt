@@ -2,7 +2,7 @@
 ghost use mathlib.Core.Path.{_≡_};
 ghost use Prim.Native.Nat.{_+_};
 ghost use lib.Dec.{leb};
-ghost use Rattle.rules_masters.specs.Records.{intervalOf, liveOf, knownOf, qualifiedOf, sameKeyOf, noHeader, noOffer, freshRecord, enteredOf, renewedOf};
+ghost use Rattle.rules_masters.specs.Records.{intervalOf, liveOf, qualifiedOf, sameKeyOf, noHeader, noOffer, freshRecord, enteredOf, renewedOf};
 use numbers::stamp::Stamp;
 use wire_layout::message::Header;
 use wire_layout::message::Offer;
@@ -19,7 +19,7 @@ pub struct Announce {
 #[repr(C)]
 pub struct Record {
     pub announce: Announce,
-    pub held: u8, // how many of the two arrivals are held; over 2 counts as 2
+    pub held: u64, // how many of the two arrivals are held; over 2 counts as 2
     pub newer: u64, // in ms
     pub older: u64,
 }
@@ -151,16 +151,6 @@ impl Record {
             return false;
         }
         within(now, self.newer, 4 * (interval as u64))
-    }
-
-    // The sender's own record, and live.
-    pub fn known(self, sender: Port, now: u64, interval: u32) -> bool
-        ensures { λ r. ⌜ r ≡ knownOf sender now interval self ⌝ }
-    {
-        if self.live(now, interval) {
-            return same_key(self.announce.header.source, sender);
-        }
-        false
     }
 
     // Two arrivals, the older no more than 4 intervals ago and the newer no more than 3 (rule 5.8).

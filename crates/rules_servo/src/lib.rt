@@ -15,13 +15,14 @@ use numbers::units::Ppb;
 // With an I this far from 0 or farther the limit is passed whatever the offset, so that the sum may be made with this one.
 const FAR: u64 = 1_000_000_000_000_000;
 
+// Lent to C as it is: 64 octets in this order, and none between the fields.
 #[repr(C)]
 pub struct Servo {
     pub integral: i64, // I, in 1/128,000 ppb
-    pub kp: u16, // in thousandths
-    pub ki: u16, // in thousandths
     pub ten: Ten,
     pub output: Ppb, // positive slows the clock (rule 8.4)
+    pub kp: u16, // in thousandths
+    pub ki: u16, // in thousandths
 }
 
 fn gain(thousandths: u16) -> i64
@@ -69,10 +70,10 @@ impl Servo {
     {
         Servo {
             integral: 0,
-            kp,
-            ki,
             ten: Ten::empty(),
             output: Ppb(0),
+            kp,
+            ki,
         }
     }
 
@@ -88,10 +89,10 @@ impl Servo {
         let ten = self.ten;
         Servo {
             integral,
-            kp: self.kp,
-            ki: self.ki,
             ten: ten.with(x as i32),
             output: Ppb(rounding::whole_ppb(output) as i32),
+            kp: self.kp,
+            ki: self.ki,
         }
     }
 

@@ -7,7 +7,7 @@ ghost use Rattle.rules_servo.specs.Ten.{emptyTen, tenWith, listOf};
 #[repr(C)]
 pub struct Ten {
     pub offsets: [i32; 10], // in nanoseconds, the newest first; an accepted one fits an i32
-    pub count: u8, // how many of them are held; over ten means ten
+    pub count: u64, // how many of them are held; over ten means ten
 }
 
 // Of opposite signs. Zero has none.
@@ -23,7 +23,7 @@ fn opposite(x: i32, y: i32) -> bool
     }
 }
 
-fn one_more(count: u8) -> u8
+fn one_more(count: u64) -> u64
     ensures { λ r. ⌜ r ≡ min 10 (count + 1) ⌝ }
 {
     if count < 10 { count + 1 } else { 10 }

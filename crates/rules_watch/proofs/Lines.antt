@@ -83,4 +83,4 @@ last-length n l h = simp length-drop (omega arith)
 
 -- of any watch that a fresh one can become
 pub drift-right : {t : WatchSettings} {h : Since} {w : Watch} → Good t h w → (q : Line) → watchLine t w ≡ drifts.Line q → Right (windowOf t (h .samples)) q
-drift-right {t} {h} {w} g q e = line-right t (w .taken) (windowOf t (h .samples)) (small-last (sizeOf t) (g .small)) (last-length (sizeOf t) (h .samples) (omega arith)) q (rw (g .holds) at e)
+drift-right {t} {h} {w} g q e = line-right t (w .head .taken) (windowOf t (h .samples)) (small-last (sizeOf t) (g .small)) (last-length (sizeOf t) (h .samples) (omega arith)) q (rw (g .holds) at e)

@@ -7,7 +7,6 @@ use native.Mathlib.Nat.{pos-of-ne-zero}
 use borrow.Author.Tests.{eqb-true, eqb-false}
 use lib.Dec.{eqb}
 use lib.IntN.{ℤ}
-use lib.ListN.{length}
 use Rattle.numbers.specs.declared.refusal.Refusal.the-variants.{Tick, NotReady}
 use Rattle.numbers.specs.Grounds.{firstOf}
 use Rattle.numbers.specs.Orders.{ofTick, ofLine}
@@ -22,7 +21,8 @@ use Rattle.rules_watch.specs.Totals.{pointsOf, lineThrough}
 use Rattle.rules_watch.specs.Rules.{Since, onLast, outsideOf, inside, outcome, unlessBarred, due, lineIfDue, lineUnlessBarred}
 use Rattle.rules_watch.specs.Watch.{sinceOf}
 use Rattle.rules_watch.specs.Inner.{newestOf, latest}
-use Rattle.rules_watch.proofs.Ring.{held-none, held-last, on-last}
+use Rattle.rules_watch.proofs.Ring.{on-last}
+use Rattle.rules_watch.proofs.Places.{newestIn, watch-none, watch-last}
 
 pub tick-order : (outside : Bool) (o : Outcome) → unlessBarred (firstOf (ofTick outside)) o ≡ cond outside (Refuse Tick) o
 unfolding firstOf
@@ -41,13 +41,13 @@ outcome-is t h reference clock = tick-order (outsideOf reference || outsideOf cl
 pub line-is : (t : WatchSettings) (taken : ℕ) (window : List Sample) → lineIfDue t taken window ≡ cond (due t taken window) (Line (lineThrough (pointsOf window))) (Refused NotReady)
 line-is t taken window = line-order (due t taken window) (lineThrough (pointsOf window))
 
-pub told-latest : (t : WatchSettings) (w : Watch) (reference clock : ℤ) → length (w .window .samples) ≡ 128
-    → outcome t (sinceOf w) reference clock ≡ outcome t (latest (eqb (w .window .len) 0) (w .origin) (newestOf (w .window))) reference clock
+pub told-latest : (t : WatchSettings) (w : Watch) (reference clock : ℤ)
+    → outcome t (sinceOf w) reference clock ≡ outcome t (latest (eqb (w .head .len) 0) (w .head .origin) (newestOf w)) reference clock
 unfolding onLast
-told-latest t w reference clock full = go (eqb (w .window .len) 0) refl
+told-latest t w reference clock = go (eqb (w .head .len) 0) refl
   where
-    go : (b : Bool) → eqb (w .window .len) 0 ≡ b → outcome t (sinceOf w) reference clock ≡ outcome t (latest b (w .origin) (newestOf (w .window))) reference clock
-    go true e = rw (held-none (w .window) full (eqb-true (w .window .len) 0 e))
+    go : (b : Bool) → eqb (w .head .len) 0 ≡ b → outcome t (sinceOf w) reference clock ≡ outcome t (latest b (w .head .origin) (newestOf w)) reference clock
+    go true e = rw (watch-none w (eqb-true (w .head .len) 0 e))
     go false e =
-        let h = held-last (w .window) full (pos-of-ne-zero (eqb-false (w .window .len) 0 e)) in
-        rw (h .1, on-last _ _ (h .0) (newestOf (w .window)))
+        let h = watch-last w (pos-of-ne-zero (eqb-false (w .head .len) 0 e)) in
+        rw (h .1, on-last _ _ (h .0) (newestIn w))

@@ -9,13 +9,14 @@ use native.Mathlib.Numerals.{add-one}
 use native.Mathlib.Omega.{arith}
 use borrow.Author.Tests.{ltb-true, ltb-false}
 use lib.Dec.{ltb}
-use lib.ListN.{getD, List·getD-append, length, take, drop, set, length-append, length-drop, length-set, length-replicate}
+use lib.IntN.{ℤ}
+use lib.ListN.{getD, List·getD-append, length, take, drop, set, length-append, length-drop, length-set}
 use lib.Seq.{getD-drop, getD-take, getD-append-add, take-suc-set, drop-set-lt, drop-append-le, drop-drop, take-suc, take-all, drop-length, length-take-le}
 use Rattle.rules_watch.specs.declared.window.Sample.{Sample}
-use Rattle.rules_watch.specs.declared.window.Window.{Window}
+use Rattle.rules_watch.specs.declared.window.Head.{Head}
 use Rattle.rules_watch.specs.Rules.{onLast}
-use Rattle.rules_watch.specs.Window.{lastN, rot, samplesIn, blank, freshWindow, pushed}
-use Rattle.rules_watch.specs.Inner.{newestOf}
+use Rattle.rules_watch.specs.Window.{lastN, rot, heldIn, headAfter}
+use Rattle.rules_watch.specs.Inner.{blank}
 
 -- the counts of a push on a ring of L places, of which k are held, into a window of w
 refill : (L : ℕ) {w : ℕ} → 0 < w → w ≤ L → L - 1 + 1 ≡ L
@@ -102,50 +103,47 @@ module _ {A : Type 0} where
 
 -- ---- the window
 -- after a sample it holds the last W of the samples before with the new one behind them
-pub held-pushed : (size : ℕ) (s : Sample) (w : Window) → length (w .samples) ≡ 128 → 0 < size → size ≤ 128 → samplesIn (pushed size s w) ≡ lastN size (samplesIn w ++ (s ∷ []))
-unfolding samplesIn
-held-pushed size s w full p q =
-    let n = w .next % 128 in
-    let k = min (w .len) 128 in
-    let h = rot n (w .samples) in
+pub held-pushed : (size : ℕ) (origin : ℤ) (s : Sample) (h : Head) (ring : List Sample) → length ring ≡ 128 → 0 < size → size ≤ 128
+    → heldIn (headAfter size origin h) (set ring (h .next % 128) s) ≡ lastN size (heldIn h ring ++ (s ∷ []))
+unfolding heldIn
+held-pushed size origin s h ring full p q =
+    let n = h .next % 128 in
+    let k = min (h .len) 128 in
     let e : min (min (k + 1) size) 128 ≡ min (k + 1) size = omega arith in
     let f : (n + 1) % 128 % 128 ≡ (n + 1) % 128 = omega arith in
-    let long : length h ≡ 128 = length-rot n (w .samples) (omega arith) ∙ full in
+    let long : length (rot n ring) ≡ 128 = length-rot n ring (omega arith) ∙ full in
     rw (e, f)
-    (ap (lastN (min (k + 1) size)) (rot-mod (n + 1) (set (w .samples) n s) (omega arith) (length-set (w .samples) n s ∙ full) ∙ rot-push n (w .samples) s (omega arith))
-    ∙ last-push k size h s (omega arith) p (omega arith))
+    (ap (lastN (min (k + 1) size)) (rot-mod (n + 1) (set ring n s) (omega arith) (length-set ring n s ∙ full) ∙ rot-push n ring s (omega arith))
+    ∙ last-push k size (rot n ring) s (omega arith) p (omega arith))
 
-pub held-none : (w : Window) → length (w .samples) ≡ 128 → w .len ≡ 0 → samplesIn w ≡ []
-unfolding samplesIn
-held-none w full e =
-    let n = w .next % 128 in
-    let z : min (w .len) 128 ≡ 0 = omega arith in
-    rw z (nothing (lastN 0 (rot n (w .samples))) (length-last n 0 (w .samples) full (omega arith) (omega arith)))
+pub held-none : (h : Head) (ring : List Sample) → length ring ≡ 128 → h .len ≡ 0 → heldIn h ring ≡ []
+unfolding heldIn
+held-none h ring full e =
+    let n = h .next % 128 in
+    let z : min (h .len) 128 ≡ 0 = omega arith in
+    rw z (nothing (lastN 0 (rot n ring)) (length-last n 0 ring full (omega arith) (omega arith)))
   where
     nothing : (l : List Sample) → length l ≡ 0 → l ≡ []
     nothing [] h = refl
     nothing (s ∷ l) h = absurd (omega arith)
-
-pub held-fresh : samplesIn freshWindow ≡ []
-held-fresh = held-none freshWindow (length-replicate 128 blank) refl
 
 -- a list by its last
 behind : (l : List Sample) (m : ℕ) → length l ≡ m + 1 → l ≡ take m l ++ (getD l m blank ∷ [])
 behind l m e = sym (take-all (suc m) l (omega arith)) ∙ take-suc l m blank (omega arith)
 
 -- the sample taken last comes after the others
-pub held-last : (w : Window) → length (w .samples) ≡ 128 → 0 < w .len → (l : List Sample) × (samplesIn w ≡ l ++ (newestOf w ∷ []))
-unfolding samplesIn
-held-last w full h =
-    let n = w .next % 128 in
-    let k = min (w .len) 128 in
-    let H = lastN k (rot n (w .samples)) in
+pub held-last : (h : Head) (ring : List Sample) → length ring ≡ 128 → 0 < h .len → (l : List Sample) × (heldIn h ring ≡ l ++ (getD ring ((h .next % 128 + 127) % 128) blank ∷ []))
+unfolding heldIn
+held-last h ring full some =
+    let n = h .next % 128 in
+    let k = min (h .len) 128 in
+    let H = lastN k (rot n ring) in
     let m = k - 1 in
-    let e : length H ≡ k = length-last n k (w .samples) full (omega arith) (omega arith) in
+    let e : length H ≡ k = length-last n k ring full (omega arith) (omega arith) in
     let j : n + (128 - k) + m ≡ n + 127 = back-one n k (omega arith) (omega arith) in (
       take m H,
       behind H m (omega arith)
-          ∙ ap (λ (s : Sample). take m H ++ (s ∷ [])) (last-at n k m (w .samples) blank full (omega arith) (omega arith) (omega arith) ∙ ap (λ (i : ℕ). getD (w .samples) (i % 128) blank) j),
+          ∙ ap (λ (s : Sample). take m H ++ (s ∷ [])) (last-at n k m ring blank full (omega arith) (omega arith) (omega arith) ∙ ap (λ (i : ℕ). getD ring (i % 128) blank) j),
     )
   where
     back-one : (n k : ℕ) → 0 < k → k ≤ 128 → n + (128 - k) + (k - 1) ≡ n + 127

@@ -9,19 +9,20 @@ use borrow.Author.Tests.{le-leb, lt-leb, leb-false}
 use lib.Dec.{leb, ltb}
 use lib.IntN.{ℤ, pos, natAbs, _-ℤ_}
 use lib.Signed.{leZ}
-use lib.ListN.{length, drop, length-append, length-replicate, length-set}
+use lib.ListN.{length, drop, length-append}
 use Rattle.numbers.specs.declared.refusal.Refusal.the-variants.{Tick}
 use Rattle.rules_watch.specs.declared.settings.WatchSettings.{WatchSettings}
 use Rattle.rules_watch.specs.declared.window.Sample.{Sample}
 use Rattle.rules_watch.specs.declared.Watch.{Watch}
-use Rattle.rules_watch.specs.declared.Pulse.the-variants.{Valid, Invalid, Back, Range, Jump}
+use Rattle.rules_watch.specs.declared.Pulse.the-variants.{Back, Range, Jump}
 use Rattle.rules_watch.specs.declared.judging.Outcome.{Outcome}
 use Rattle.rules_watch.specs.declared.judging.Outcome.the-variants.{Refuse, Wipe, Take}
 use Rattle.rules_watch.specs.Settings.{sizeOf}
-use Rattle.rules_watch.specs.Window.{lastN, samplesIn, blank}
-use Rattle.rules_watch.specs.Rules.{Since, freshSince, wipesOf, apart, outsideOf, sampleAfter, settled, followed, onLast, inside, outcome, sinceBy, Stamps, sinceAfter, windowOf, lineSince}
-use Rattle.rules_watch.specs.Watch.{freshWatch, sampleTaken, takenBy, sinceOf, takenOf, nextWatch, watchAfter, watchLine}
-use Rattle.rules_watch.proofs.Ring.{held-pushed, held-fresh, last-none, last-on, last-again}
+use Rattle.rules_watch.specs.Window.{lastN}
+use Rattle.rules_watch.specs.Rules.{Since, freshSince, pulseOf, wipesOf, apart, outsideOf, sampleAfter, settled, followed, onLast, inside, outcome, sinceBy, Stamps, sinceAfter, windowOf, lineSince}
+use Rattle.rules_watch.specs.Watch.{samplesIn, freshWatch, sampleTaken, takenBy, sinceOf, takenOf, nextWatch, watchAfter, watchLine}
+use Rattle.rules_watch.proofs.Ring.{last-none, last-on, last-again}
+use Rattle.rules_watch.proofs.Places.{Full, watch-pushed, full-pushed, full-fresh, watch-fresh}
 use Rattle.rules_watch.proofs.Outcomes.{outcome-is}
 
 -- every y is below a second
@@ -44,16 +45,16 @@ small-last n {l} m = small-drop (length l - n) m
 
 -- the memory w tells the samples h
 pub record Good (t : WatchSettings) (h : Since) (w : Watch) : Type 0 where
-  pub full : length (w .window .samples) ≡ 128
-  pub holds : samplesIn (w .window) ≡ windowOf t (h .samples)
-  pub counts : w .taken ≡ min (length (h .samples)) 10
-  pub origin : w .origin ≡ h .origin
+  pub full : Full w
+  pub holds : samplesIn w ≡ windowOf t (h .samples)
+  pub counts : w .head .taken ≡ min (length (h .samples)) 10
+  pub origin : w .head .origin ≡ h .origin
   pub small : Small (h .samples)
 
 pub fresh-good : (t : WatchSettings) → Good t freshSince freshWatch
 fresh-good t = record {
-  full = length-replicate 128 blank;
-  holds = held-fresh ∙ sym (last-none (sizeOf t));
+  full = full-fresh;
+  holds = watch-fresh ∙ sym (last-none (sizeOf t));
   counts = refl;
   origin = refl;
   small = none;
@@ -101,8 +102,8 @@ proper t h r c = rw (outcome-is t h r c) (go (outsideOf r || outsideOf c))
 -- a sample taken stays told
 pub good-accepted : {t : WatchSettings} {h : Since} {w : Watch} → Good t h w → (o : ℤ) (s : Sample) → natAbs (s .y) < 1_000_000_000 → Good t (sinceBy h (Take o s)) (sampleTaken t w o s .watch)
 good-accepted {t} {h} {w} g o s k = record {
-  full = length-set (w .window .samples) _ s ∙ g .full;
-  holds = held-pushed (sizeOf t) s (w .window) (g .full) (omega arith) (omega arith) ∙ rw (g .holds) (last-again (sizeOf t) (h .samples) s (omega arith));
+  full = full-pushed (sizeOf t) o s w (g .full);
+  holds = watch-pushed (sizeOf t) o s w (g .full) (omega arith) (omega arith) ∙ rw (g .holds) (last-again (sizeOf t) (h .samples) s (omega arith));
   counts = rw (g .counts) (count (length (h .samples)) (length (h .samples ++ (s ∷ []))) (length-append (h .samples) (s ∷ [])));
   origin = refl;
   small = small-snoc s (g .small) k;
@@ -115,7 +116,7 @@ good-accepted {t} {h} {w} g o s k = record {
 pub next-taken : (t : WatchSettings) (w : Watch) (o : ℤ) (s : Sample) → nextWatch (sampleTaken t w o s) ≡ sampleTaken t w o s .watch
 next-taken t w o s = go (s .valid)
   where
-    go : (b : Bool) → cond (wipesOf (cond b Valid Invalid)) freshWatch (sampleTaken t w o s .watch) ≡ sampleTaken t w o s .watch
+    go : (b : Bool) → cond (wipesOf (pulseOf b)) freshWatch (sampleTaken t w o s .watch) ≡ sampleTaken t w o s .watch
     go true = refl
     go false = refl
 

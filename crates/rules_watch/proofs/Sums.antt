@@ -10,9 +10,8 @@ use lib.Seq.{drop-cons, drop-length}
 use Rattle.rules_fit.specs.Points.{Point, total}
 use Rattle.rules_watch.specs.declared.window.Sample.{Sample}
 use Rattle.rules_watch.specs.declared.totals.Totals.{Totals}
-use Rattle.rules_watch.specs.Window.{blank}
 use Rattle.rules_watch.specs.Totals.{upFrom, points, pointsOf}
-use Rattle.rules_watch.specs.Inner.{noTotals, withPoint, withSample, totalsOf}
+use Rattle.rules_watch.specs.Inner.{blank, noTotals, withPoint, withSample, totalsOf}
 
 -- the samples of a list, the first at the position k, added to t
 unfoldable pub sumFrom : ℕ → Totals → List Sample → Totals

@@ -1,5 +1,5 @@
 -- What only inner contracts cite: nobody needs to believe it.
-use mathlib.Core.Bool.{Bool, cond}
+use mathlib.Core.Bool.{Bool, true, false, cond}
 use mathlib.Core.List.{List, [], _∷_}
 use Prim.Native.Nat.{ℕ, _+_, _*_, _%_}
 use lib.IntN.{ℤ, pos, _+ℤ_, _-ℤ_, _*ℤ_}
@@ -8,15 +8,19 @@ use Rattle.numbers.specs.Integers.{Within}
 use Rattle.rules_fit.specs.Points.{Point, count, sumX, sumXX, sumY, sumXY}
 use Rattle.rules_fit.specs.Nearest.{nearestFloat}
 use Rattle.rules_watch.specs.declared.window.Sample.{Sample}
-use Rattle.rules_watch.specs.declared.window.Window.{Window}
 use Rattle.rules_watch.specs.declared.totals.Totals.{Totals}
 use Rattle.rules_watch.specs.declared.totals.Line.{Line}
-use Rattle.rules_watch.specs.Window.{blank}
+use Rattle.rules_watch.specs.declared.Watch.{Watch}
+use Rattle.rules_watch.specs.Window.{isValid}
 use Rattle.rules_watch.specs.Rules.{Since}
 
--- the sample taken last
-abbrev pub newestOf : Window → Sample
-newestOf w = getD (w .samples) ((w .next % 128 + 127) % 128) blank
+-- a cleared place
+abbrev pub blank : Sample
+blank = record { reference = pos 0; y = pos 0; valid = false }
+
+-- of the sample taken last what the rules ask for: they pass over its validity
+abbrev pub newestOf : Watch → Sample
+newestOf w = record { reference = getD (w .references) ((w .head .next % 128 + 127) % 128) (pos 0); y = getD (w .ys) ((w .head .next % 128 + 127) % 128) (pos 0); valid = true }
 
 -- of the samples since the wipe the last one, or none: the rules ask for no more
 abbrev pub latest : Bool → ℤ → Sample → Since
@@ -36,6 +40,10 @@ withPoint x y t = record { n = t .n +ℤ pos 1; x = t .x +ℤ x; xx = t .xx +ℤ
 -- one sample more, at the position x: an invalid one adds nothing
 abbrev pub withSample : ℕ → Sample → Totals → Totals
 withSample x s t = cond (s .valid) (withPoint (pos x) (s .y) t) t
+
+-- the same of its y and its mark
+abbrev pub withMarked : ℕ → ℤ → ℕ → Totals → Totals
+withMarked x y mark t = withSample x (record { reference = pos 0; y = y; valid = isValid mark }) t
 
 -- what totals over k samples, at positions below 128 and with any i32 for y, lie within
 pub record Over (k : ℕ) (t : Totals) : Type 0 where

@@ -31,6 +31,10 @@ pub record Since : Type 0 where
 abbrev pub freshSince : Since
 freshSince = record { origin = pos 0; samples = [] }
 
+-- what is said of a sample that was taken
+abbrev pub pulseOf : Bool → Pulse
+pulseOf valid = cond valid Valid Invalid
+
 -- which pulses wipe (rule 10.5). Whoever asks for it asks here
 abbrev pub wipesOf : Pulse → Bool
 wipesOf Valid = false
@@ -38,6 +42,14 @@ wipesOf Invalid = false
 wipesOf Back = true
 wipesOf Range = true
 wipesOf Jump = true
+
+-- its code at the door
+abbrev pub codeOf : Pulse → ℕ
+codeOf Valid = 17
+codeOf Invalid = 18
+codeOf Back = 19
+codeOf Range = 20
+codeOf Jump = 21
 
 -- a stamp out of range (rule 3.20)
 abbrev pub outsideOf : ℤ → Bool

@@ -1,11 +1,12 @@
--- The window as a list of samples, oldest first, and the ring that holds it.
-use mathlib.Core.Bool.{false}
-use mathlib.Core.List.{List, _++_}
-use Prim.Native.Nat.{ℕ, _+_, _-_, _%_, min}
-use lib.IntN.{pos}
-use lib.ListN.{length, take, drop, set, replicate}
+-- The window as a list of samples, oldest first, and the ring that holds it: a small head, and a column for each number of a sample.
+use mathlib.Core.Bool.{Bool, cond, not}
+use mathlib.Core.List.{List, [], _∷_, _++_, map}
+use Prim.Native.Nat.{ℕ, zero, suc, _+_, _-_, _%_, min}
+use lib.Dec.{eqb}
+use lib.IntN.{ℤ, pos}
+use lib.ListN.{length, getD, take, drop}
 use Rattle.rules_watch.specs.declared.window.Sample.{Sample}
-use Rattle.rules_watch.specs.declared.window.Window.{Window}
+use Rattle.rules_watch.specs.declared.window.Head.{Head}
 
 module _ {A : Type 0} where
   -- the last n of a list
@@ -16,18 +17,34 @@ module _ {A : Type 0} where
   unfoldable pub rot : ℕ → List A → List A
   rot n l = drop n l ++ take n l
 
--- what is held, oldest first: of the ring's places, read round from the one that is written next, the last `len`
-unfoldable pub samplesIn : Window → List Sample
-samplesIn w = lastN (min (w .len) 128) (rot (w .next % 128) (w .samples))
+-- a mark of 0 is an invalid sample, any other a valid one; 1 is written for a valid one
+abbrev pub isValid : ℕ → Bool
+isValid mark = not (eqb mark 0)
 
--- a cleared place
-abbrev pub blank : Sample
-blank = record { reference = pos 0; y = pos 0; valid = false }
+abbrev pub markOf : Bool → ℕ
+markOf valid = cond valid 1 0
 
--- an empty window, its memory cleared (rule 10.13)
-abbrev pub freshWindow : Window
-freshWindow = record { samples = replicate 128 blank; next = 0; len = 0 }
+-- the sample at the place i, made of the three numbers that the columns have there
+abbrev pub sampleAt : List ℤ → List ℤ → List ℕ → ℕ → Sample
+sampleAt references ys marks i = record { reference = getD references i (pos 0); y = getD ys i (pos 0); valid = isValid (getD marks i 0) }
 
--- s is written over the place that is next
-abbrev pub pushed : ℕ → Sample → Window → Window
-pushed size s w = record { samples = set (w .samples) (w .next % 128) s; next = (w .next % 128 + 1) % 128; len = min (min (w .len) 128 + 1) size }
+-- n numbers, k and up
+unfoldable pub countUp : ℕ → ℕ → List ℕ
+countUp k zero = []
+countUp k (suc n) = k ∷ countUp (suc k) n
+
+-- three columns read as one ring of samples
+unfoldable pub ringOf : List ℤ → List ℤ → List ℕ → List Sample
+ringOf references ys marks = map (sampleAt references ys marks) (countUp 0 128)
+
+-- what is held of a ring, oldest first: of its places, read round from the one that is written next, the last `len`
+unfoldable pub heldIn : Head → List Sample → List Sample
+heldIn h ring = lastN (min (h .len) 128) (rot (h .next % 128) ring)
+
+-- nothing held, nothing taken
+abbrev pub freshHead : Head
+freshHead = record { origin = pos 0; next = 0; len = 0; taken = 0 }
+
+-- a sample was written over the place that is next, into a window of `size`; the holdoff asks for 10 of those taken at most
+abbrev pub headAfter : ℕ → ℤ → Head → Head
+headAfter size origin h = record { origin = origin; next = (h .next % 128 + 1) % 128; len = min (min (h .len) 128 + 1) size; taken = min (h .taken + 1) 10 }

@@ -2,15 +2,16 @@
 use mathlib.Core.Path.{_≡_, refl, ap, _∙_, subst}
 use mathlib.Core.List.{List, _∷_}
 use mathlib.Core.Option.{some}
-use mathlib.Core.Bool.{Bool, true, false, cond, not}
+use mathlib.Core.Bool.{Bool, false, cond}
 use Prim.Native.Nat.{ℕ, suc, _+_, _%_, _^_}
 use native.Mathlib.Omega.{arith}
 use lib.Dec.{ltb}
 use lib.ListN.{length}
 use Rattle.numbers.specs.declared.stamp.Stamp.{Stamp}
+use Rattle.numbers.specs.declared.refusal.Refusal.the-variants.{Now}
 use Rattle.numbers.specs.declared.ruling.Ruling.{Ruling}
 use Rattle.numbers.specs.declared.ruling.Ruling.the-variants.{Clear, Barred}
-use Rattle.numbers.specs.Grounds.{Ground, firstOf}
+use Rattle.numbers.specs.Grounds.{Ground, Due, firstOf}
 use Rattle.numbers.specs.Orders.{ofExchange}
 use Rattle.numbers.proofs.Grounds.{clear-cons}
 use Rattle.wire_layout.specs.declared.message.Port.{Port}
@@ -29,9 +30,10 @@ use Rattle.unit_core.specs.declared.calls.Call.the-variants as calls
 use Rattle.unit_core.specs.declared.calls.Answer.{Answer}
 use Rattle.unit_core.specs.declared.calls.Answer.the-variants as answers
 use Rattle.unit_core.specs.Effects.{Stays, Effect, wipes, unless, withNow, unlocked}
-use Rattle.unit_measuring.specs.Measuring.{meaningOf}
-use Rattle.unit_measuring.specs.Hearing.{twoStepIn, fromElsewhere, fromAnother, hearsEvent, hears}
-use Rattle.unit_measuring.specs.Asking.{narrow, requestGrounds, withNextSequence, requests, sends}
+use Rattle.unit_measuring.specs.Measuring.{bySaid}
+use Rattle.unit_measuring.specs.Barring.{messageDue, ownDue}
+use Rattle.unit_measuring.specs.Hearing.{twoStepIn, hearsEvent, hears}
+use Rattle.unit_measuring.specs.Asking.{requestDue, requestGrounds, withNextSequence, requests, sends}
 use Rattle.unit_measuring.proofs.Barring.{unless-told}
 use Rattle.unit.specs.Machine.{Past}
 use Rattle.story_exchange.specs.Log.{entry as exchangeEntry}
@@ -42,9 +44,13 @@ use Rattle.story_masters.specs.History.{passes, log as seatsAfter}
 use Rattle.story_masters.proofs.Refines.{Tells as SeatTells, step-now}
 use Rattle.story_lists.specs.Reading.{all, since}
 use Rattle.story.specs.Book.{Book, entry, aHappening, happeningBy, aRequestCall, anExchangeEntry, toldBy, chosen, faulty, sequence, staysIn, seats, exchangeLog}
-use Rattle.story.specs.Saying.{unlessBarred, fromMaster, ownCall, messageAnswer}
+use Rattle.story.specs.Saying.{unlessBarred, calling, fromMaster, messageAnswer}
 use Rattle.story.proofs.Tells.{Tells, Agrees}
 use Rattle.story.proofs.Exchanging.{Plain, wiped-tells, same-output, exchange-told}
+
+-- where nothing bars a call of the exchange, its now is taken
+now-taken : (due : Due) → firstOf (ofExchange due) ≡ Clear → due Now ≡ false
+now-taken due q = clear-cons _ _ (clear-cons _ _ q .1) .0
 
 module _ (s : Settings) (b : Book) (p : Past) (h : Tells s b p) where
   abbrev pub K : Stays
@@ -97,9 +103,9 @@ module _ (s : Settings) (b : Book) (p : Past) (h : Tells s b p) where
     from-master : (body : Body) (e : Event) (field : Bool) → ((u : Answer) (said : Said) → toldBy u ≡ some said → anExchangeEntry (s .own) (entry (Heard body) u) ≡ some (exchangeEntry e said))
         → happeningBy now hd body ≡ passes now → Agrees s b p (Heard body) (p .table) (fromMaster s b now hd field e) (hearsEvent s K (p .progress) now hd field e)
     from-master body e field i c =
-        rw (unless-told s (withNow now K) (p .progress) (p .progress .exchange) e field (ltb now (K .now)) (K .faulty) (fromElsewhere s hd) (fromAnother K hd))
-        (unless-barred (Heard body) (λ (k : Stays). ofExchange field (ltb now (k .now)) (k .faulty) (fromElsewhere s hd) (fromAnother k hd) false false false) _ _
-        (λ q. exchange-told s b p h (Heard body) now e (withNow now K) (plain body e (clear-cons _ _ (clear-cons _ _ q .1) .0) i c)))
+        rw (unless-told s (withNow now K) (p .progress) (p .progress .exchange) e (messageDue s K now hd field) refl refl refl)
+        (unless-barred (Heard body) (λ (k : Stays). ofExchange (messageDue s k now hd field)) _ _
+        (λ q. exchange-told s b p h (Heard body) now e (withNow now K) (plain body e (now-taken (messageDue s K now hd field) q) i c)))
 
     pub hears-sync : (t1 : Stamp) → Hears (bodies.Sync t1)
     unfolding hears
@@ -118,18 +124,18 @@ module _ (s : Settings) (b : Book) (p : Past) (h : Tells s b p) where
     hears-req t = record { says = refl; tells = h }
 
   -- ---- t3
-  pub sent-told : (now n : ℕ) (t : Stamp) → Agrees s b p (calls.Sent now n t) (p .table) (ownCall s b now (fieldOf t) false (sent n t)) (sends s K (p .progress) now n t)
+  pub sent-told : (now n : ℕ) (t : Stamp) → Agrees s b p (calls.Sent now n t) (p .table) (calling s b (ownDue (staysIn b) now (fieldOf t)) (sent n t)) (sends s K (p .progress) now n t)
   unfolding sends all
   sent-told now n t =
-      rw (unless-told s (withNow now K) (p .progress) (p .progress .exchange) (sent n t) (fieldOf t) (ltb now (K .now)) (K .faulty) false (not (K .chosen .some)))
-      (unless-barred (calls.Sent now n t) (λ (k : Stays). ofExchange (fieldOf t) (ltb now (k .now)) (k .faulty) false (not (k .chosen .some)) false false false) _ _
+      rw (unless-told s (withNow now K) (p .progress) (p .progress .exchange) (sent n t) (ownDue K now (fieldOf t)) refl refl refl)
+      (unless-barred (calls.Sent now n t) (λ (k : Stays). ofExchange (ownDue k now (fieldOf t))) _ _
       (λ q. exchange-told s b p h (calls.Sent now n t) now (sent n t) (withNow now K)
       (record {
         nows = λ u. refl;
         pulses = λ u. refl;
         requests = λ u. refl;
         stays = stays-now now;
-        seats = λ u. seats-now now (clear-cons _ _ (clear-cons _ _ q .1) .0);
+        seats = λ u. seats-now now (now-taken (ownDue K now (fieldOf t)) q);
         enters = λ u said i. rw i;
       })))
 
@@ -142,8 +148,8 @@ module _ (s : Settings) (b : Book) (p : Past) (h : Tells s b p) where
   unfolding told tellsOf rowBy stampTaken firstOf exchangeAnswer answerUnbarred
   asked-tells n = exchange-step (exchangeLog s b) (p .progress .exchange) (h .exchange) (requested n) .tells
 
-  pub request-told : (now room : ℕ) → Agrees s b p (calls.Request now room) (p .table) (ownCall s b now false (narrow room) (requested (sequence b))) (requests s K (p .progress) now room)
-  unfolding requests all since tellsOf rowBy stampTaken meaningOf exchangeAnswer answerUnbarred
+  pub request-told : (now room : ℕ) → Agrees s b p (calls.Request now room) (p .table) (calling s b (requestDue (staysIn b) now room) (requested (sequence b))) (requests s K (p .progress) now room)
+  unfolding requests all since tellsOf rowBy stampTaken bySaid firstOf exchangeAnswer answerUnbarred
   request-told now room =
       unless-barred (calls.Request now room) (λ (k : Stays). requestGrounds k now room) _ _
       (λ q. record {
@@ -151,7 +157,7 @@ module _ (s : Settings) (b : Book) (p : Past) (h : Tells s b p) where
         tells =
             record {
               stays = ap (λ (k : Stays). withNextSequence now k) (h .stays) ∙ ap (λ (n : ℕ). record { now = now; chosen = chosen b; faulty = faulty b; sequence = n }) (counted (length (all aRequestCall b)));
-              seats = seats-now now (clear-cons _ _ (clear-cons _ _ q .1) .0);
+              seats = seats-now now (now-taken (requestDue K now room) q);
               exchange =
                   subst (λ (k : Stays). ExchangeTells (exchangeEntry (requested (k .sequence)) (says.Asked (k .sequence)) ∷ exchangeLog s b) (withRequest (p .progress .exchange) (asked (K .sequence)))) (h .stays)
                   (asked-tells (K .sequence));

@@ -27,7 +27,7 @@ use Rattle.unit_core.specs.declared.calls.Answer.{Answer}
 use Rattle.unit_core.specs.declared.calls.Answer.the-variants as answers
 use Rattle.unit_core.specs.Effects.{Stays, goes, wipes}
 use Rattle.unit_core.specs.Answers.{isRefusal}
-use Rattle.unit_measuring.specs.Measuring.{meaningOf, byAnswer, withExchange, outputAfter, progressAfter, faultyAt, exchanges}
+use Rattle.unit_measuring.specs.Measuring.{bySaid, byAnswer, withExchange, outputAfter, progressAfter, faultyAt, exchanges}
 use Rattle.unit.specs.Machine.{Past}
 use Rattle.story_exchange.specs.Log.{entry as exchangeEntry}
 use Rattle.story_exchange.specs.History.{logWith, exchangeAfter}
@@ -156,7 +156,7 @@ module _ (s : Settings) (b : Book) (p : Past) (h : Tells s b p) where
 
     meet : (a : Told) → ((m : Accepted) → a ≡ tells.Says (says.Measured m) → heldOffset (m .offset .0) ≡ m .offset .0) → (x : Exchange)
         → ExchangeTells (logWith e a (exchangeLog s b)) (exchangeAfter (record { answer = a; exchange = x })) → Agrees s b p call (p .table) (unitAnswer s b a) (byAnswer s k (p .progress) a x)
-    unfolding meaningOf
+    unfolding bySaid
     meet (tells.Refused n) g x xt = record { says = refl; tells = h }
     meet (tells.Says says.Held) g x xt = went says.Held x refl refl refl xt
     meet (tells.Says says.Paired) g x xt = went says.Paired x refl refl refl xt

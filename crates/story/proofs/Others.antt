@@ -9,10 +9,10 @@ use borrow.Author.Tests.{ltb-false}
 use lib.Dec.{leb, ltb}
 use lib.IntN.{ℤ, pos, natAbs, _-ℤ_}
 use lib.Signed.{leZ}
-use Rattle.numbers.specs.declared.refusal.Refusal.the-variants.{Tick}
+use Rattle.numbers.specs.declared.refusal.Refusal.the-variants.{Now, Tick}
 use Rattle.numbers.specs.declared.units.Ppb.{Ppb}
 use Rattle.numbers.specs.declared.stamp.Stamp.{Stamp}
-use Rattle.numbers.specs.Grounds.{firstOf}
+use Rattle.numbers.specs.Grounds.{firstOf, noneDue, dueWith}
 use Rattle.numbers.specs.Orders.{ofTime}
 use Rattle.wire_layout.specs.declared.message.Header.{Header}
 use Rattle.wire_layout.specs.declared.message.Offer.{Offer}
@@ -34,7 +34,7 @@ use Rattle.rules_watch.specs.declared.judging.Outcome.{Outcome}
 use Rattle.rules_watch.specs.declared.judging.Outcome.the-variants.{Refuse, Wipe, Take}
 use Rattle.rules_watch.specs.declared.Drift.{Drift}
 use Rattle.rules_watch.specs.declared.Drift.the-variants as drift
-use Rattle.rules_watch.specs.Rules.{Since, Stamps as Given, outcome, onLast, sampleAfter, outsideOf, apart, lineSince, sinceBy}
+use Rattle.rules_watch.specs.Rules.{Since, Stamps as Given, pulseOf, outcome, onLast, sampleAfter, outsideOf, apart, lineSince, sinceBy}
 use Rattle.rules_watch.proofs.Outcomes.{outcome-is}
 use Rattle.rules_watch.proofs.Story.{Proper, proper}
 use Rattle.rules_settings.specs.declared.Settings.{Settings}
@@ -44,7 +44,7 @@ use Rattle.unit_core.specs.declared.calls.Answer.{Answer}
 use Rattle.unit_core.specs.declared.calls.Answer.the-variants as answers
 use Rattle.unit_core.specs.Effects.{Stays, keeps, goes, takes, wipes, unless}
 use Rattle.unit_core.specs.Showing.{portOf, showsOf}
-use Rattle.unit_choosing.specs.Choosing.{admission as admitting, withChosen, holds, timePasses, chooses as choosesAnew, admits, announces as announcing}
+use Rattle.unit_choosing.specs.Choosing.{timeDue, admission as admitting, withChosen, holds, timePasses, chooses as choosesAnew, admits, announces as announcing}
 use Rattle.unit_ticking.specs.Ticking.{ticks, lineBy}
 use Rattle.unit.specs.Machine.{Past, pastBy}
 use Rattle.story_masters.specs.Announces.{Log as SeatLog, came, lastNow as lastSeen}
@@ -196,11 +196,11 @@ module _ (s : Settings) (b : Book) (p : Past) (h : Tells s b p) where
   pub time-told : (now : ℕ) → Agrees s b p (calls.Time now) (p .table) (answer s b (calls.Time now)) (timePasses s K (p .progress) (p .table) now)
   unfolding answer timePasses choosesAnew all firstOf
   time-told now =
-      subst (λ (k : Stays). Agrees s b p (calls.Time now) (p .table) (unlessBarred (firstOf (ofTime false (ltb now (k .now)))) (choiceAnswer s b now (seats s b))) (timePasses s K (p .progress) (p .table) now)) (h .stays)
+      subst (λ (k : Stays). Agrees s b p (calls.Time now) (p .table) (unlessBarred (firstOf (ofTime (timeDue k now))) (choiceAnswer s b now (seats s b))) (timePasses s K (p .progress) (p .table) now)) (h .stays)
       (go (ltb now (K .now)) refl)
     where
       go : (i : Bool) → ltb now (K .now) ≡ i
-          → Agrees s b p (calls.Time now) (p .table) (unlessBarred (firstOf (ofTime false i)) (choiceAnswer s b now (seats s b))) (unless (firstOf (ofTime false i)) (choosesAnew s K (p .progress) (p .table) now))
+          → Agrees s b p (calls.Time now) (p .table) (unlessBarred (firstOf (ofTime (dueWith Now i noneDue))) (choiceAnswer s b now (seats s b))) (unless (firstOf (ofTime (dueWith Now i noneDue))) (choosesAnew s K (p .progress) (p .table) now))
       go true e = record { says = refl; tells = h }
       go false e =
           chosen-told (calls.Time now) now (p .table) (λ u. refl) (λ u. refl) (λ u. refl) (λ u. refl) (λ u. seats-now s b p h now e) (chosenAt (p .table .records) now (s .announce)) (chosenIn (s .announce) (seats s b) now)
@@ -218,7 +218,7 @@ module _ (s : Settings) (b : Book) (p : Past) (h : Tells s b p) where
           ap (λ (z : Since). sinceBy z (Take origin x)) (h .since)
           ∙ pulse-taken (s .watch) (all aPulse (sinceWipe b)) r c origin x (ap (λ (z : Since). outcome (s .watch) z r c) (sym (h .since)) ∙ e)
 
-      go : (v : Bool) → Tells s (bookWith (calls.Tick r c) (answers.Watch (cond v pulse.Valid pulse.Invalid)) b) (pastBy s p (p .table) (takes origin x))
+      go : (v : Bool) → Tells s (bookWith (calls.Tick r c) (answers.Watch (pulseOf v)) b) (pastBy s p (p .table) (takes origin x))
       go true = record { stays = h .stays; seats = h .seats; exchange = h .exchange; servo = h .servo; measured = h .measured; since = taken; count = h .count }
       go false = record { stays = h .stays; seats = h .seats; exchange = h .exchange; servo = h .servo; measured = h .measured; since = taken; count = h .count }
 

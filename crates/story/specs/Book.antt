@@ -17,7 +17,7 @@ use Rattle.rules_masters.specs.declared.chosen.Decision.{Decision}
 use Rattle.rules_masters.specs.declared.chosen.Decision.the-variants as decisions
 use Rattle.rules_exchange.specs.declared.said.Said.{Said}
 use Rattle.rules_exchange.specs.declared.said.Said.the-variants as says
-use Rattle.rules_exchange.specs.Said.{Verdict, neg, long, huge, path, step, accepted, faultsOf, verdictOf}
+use Rattle.rules_exchange.specs.Said.{Verdict, rejected, huge, path, accepted, faultsOf, askedBy, verdictOf}
 use Rattle.rules_exchange.specs.Table.{Event, sync, requested, sent, followUp, delayResp}
 use Rattle.rules_watch.specs.declared.settings.WatchSettings.{WatchSettings}
 use Rattle.rules_watch.specs.declared.window.Sample.{Sample}
@@ -174,21 +174,6 @@ exchangeEntryOf e none = none
 exchangeEntryOf e (some said) = some (exchangeEntry e said)
 
 -- the request that was written, by its sequenceId
-abbrev pub askedBy : Said → Option ℕ
-askedBy says.Held = none
-askedBy says.Paired = none
-askedBy (says.Asked n) = some n
-askedBy says.Stamped = none
-askedBy says.Back = none
-askedBy says.Neg = none
-askedBy says.Long = none
-askedBy says.Huge = none
-askedBy says.HugeFaulty = none
-askedBy says.Path = none
-askedBy says.PathWiped = none
-askedBy (says.Step o) = none
-askedBy (says.Measured m) = none
-
 abbrev pub requestBy : Answer → Option ExchangeEntry
 requestBy a = then (then (toldBy a) askedBy) (λ (n : ℕ). some (exchangeEntry (requested n) (says.Asked n)))
 
@@ -214,11 +199,9 @@ exchangeLog s b = all (anExchangeEntry (s .own)) (sinceWipe b)
 
 -- ---- the servo: the accepted offsets since the wipe; and the now of the last accepted measurement since the wipe
 abbrev pub offsetBy : Verdict → Option ℤ
-offsetBy neg = none
-offsetBy long = none
+offsetBy rejected = none
 offsetBy huge = none
 offsetBy path = none
-offsetBy (step o) = none
 offsetBy (accepted d u o) = some o
 
 abbrev pub anOffset : Entry → Option ℤ

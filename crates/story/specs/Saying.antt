@@ -1,14 +1,14 @@
 -- The answer to a call, from the book alone.
 use mathlib.Core.List.{List, [], _∷_}
 use mathlib.Core.Option.{Option, none, some}
-use mathlib.Core.Bool.{Bool, true, false, cond, not}
+use mathlib.Core.Bool.{Bool, false, cond}
 use Prim.Native.Nat.{ℕ, _+_, _%_, _^_}
-use lib.Dec.{ltb, eqb}
+use lib.Dec.{ltb}
 use lib.IntN.{ℤ}
 use Rattle.numbers.specs.declared.refusal.Refusal.the-variants.{Kind}
 use Rattle.numbers.specs.declared.ruling.Ruling.{Ruling}
 use Rattle.numbers.specs.declared.ruling.Ruling.the-variants.{Clear, Barred}
-use Rattle.numbers.specs.Grounds.{firstOf}
+use Rattle.numbers.specs.Grounds.{Due, firstOf}
 use Rattle.numbers.specs.Orders.{ofExchange, ofTime}
 use Rattle.numbers.specs.declared.stamp.Stamp.{Stamp}
 use Rattle.numbers.specs.declared.units.Ppb.{Ppb}
@@ -18,7 +18,7 @@ use Rattle.wire_layout.specs.declared.message.Body.the-variants as bodies
 use Rattle.rules_masters.specs.declared.record.Announce.{Announce}
 use Rattle.rules_masters.specs.declared.admission.Answer.{Answer as Admission}
 use Rattle.rules_masters.specs.declared.admission.Answer.the-variants as admission
-use Rattle.rules_masters.specs.Holding.{isMaster, decisionOf}
+use Rattle.rules_masters.specs.Holding.{decisionOf}
 use Rattle.rules_exchange.specs.declared.Answer.{Answer as Told}
 use Rattle.rules_exchange.specs.declared.Answer.the-variants as tells
 use Rattle.rules_exchange.specs.declared.said.Said.{Said}
@@ -29,17 +29,18 @@ use Rattle.rules_servo.specs.declared.shown.Shown.{Shown}
 use Rattle.rules_servo.specs.declared.shown.Shown.the-variants.{Holdover, Tracking, Adjusting}
 use Rattle.rules_servo.specs.Shows.{isTracking}
 use Rattle.rules_servo.specs.Steps.{limitOf}
-use Rattle.rules_watch.specs.declared.Pulse.the-variants.{Valid, Invalid}
 use Rattle.rules_watch.specs.declared.judging.Outcome.{Outcome}
 use Rattle.rules_watch.specs.declared.judging.Outcome.the-variants.{Refuse, Wipe, Take}
-use Rattle.rules_watch.specs.Rules.{outcome, lineSince}
+use Rattle.rules_watch.specs.Rules.{pulseOf, outcome, lineSince}
 use Rattle.rules_settings.specs.declared.Settings.{Settings}
 use Rattle.unit_core.specs.declared.calls.Call.{Call}
 use Rattle.unit_core.specs.declared.calls.Call.the-variants as calls
 use Rattle.unit_core.specs.declared.calls.Answer.{Answer}
 use Rattle.unit_core.specs.declared.calls.Answer.the-variants as answers
+use Rattle.unit_choosing.specs.Choosing.{timeDue}
+use Rattle.unit_measuring.specs.Barring.{messageDue, ownDue}
 use Rattle.unit_measuring.specs.Hearing.{twoStepIn}
-use Rattle.unit_measuring.specs.Asking.{narrow}
+use Rattle.unit_measuring.specs.Asking.{requestDue}
 use Rattle.unit_core.specs.Showing.{portOf}
 use Rattle.unit_ticking.specs.Ticking.{lineBy}
 use Rattle.story_exchange.specs.Rules.{answer as exchangeAnswer}
@@ -47,7 +48,7 @@ use Rattle.story_servo.specs.Offsets.{output, ten}
 use Rattle.story_masters.specs.Announces.{came, Log as SeatLog}
 use Rattle.story_masters.specs.Places.{answer as seatAnswer, chosenIn}
 use Rattle.story_lists.specs.Reading.{with-it}
-use Rattle.story.specs.Book.{Book, wipeCount, lastNow, chosen, faulty, sequence, seats, exchangeLog, offsets, offsetBy, lastMeasured, samples, then, isSome}
+use Rattle.story.specs.Book.{Book, wipeCount, lastNow, chosen, faulty, sequence, staysIn, seats, exchangeLog, offsets, offsetBy, lastMeasured, samples, then, isSome}
 
 -- ---- the output after these offsets
 abbrev pub outputOf : Settings → List ℤ → Ppb
@@ -71,14 +72,11 @@ module _ (s : Settings) (b : Book) where
   eventAnswer e = unitAnswer (exchangeAnswer (exchangeLog s b) e)
 
   -- a message of the master, or a call of the unit's own: what is asked of it before the exchange is, in the order of numbers/specs/Orders.antt
-  abbrev pub calling : ℕ → (field domain master room : Bool) → Event → Answer
-  calling now field domain master room e = unlessBarred (firstOf (ofExchange field (ltb now (lastNow b)) (faulty b) domain master false false room)) (eventAnswer e)
+  abbrev pub calling : Due → Event → Answer
+  calling due e = unlessBarred (firstOf (ofExchange due)) (eventAnswer e)
 
   abbrev pub fromMaster : ℕ → Header → (field : Bool) → Event → Answer
-  fromMaster now h field e = calling now field (not (eqb (h .domain) (s .domain))) (not (isMaster (chosen b) (h .source))) false e
-
-  abbrev pub ownCall : ℕ → (field room : Bool) → Event → Answer
-  ownCall now field room e = calling now field false (not (chosen b .some)) room e
+  fromMaster now h field e = calling (messageDue s (staysIn b) now h field) e
 
   -- ---- the choice: a new or lost master wipes
   abbrev pub choiceAnswer : ℕ → SeatLog → Answer
@@ -103,7 +101,7 @@ module _ (s : Settings) (b : Book) where
   abbrev pub pulseAnswer : Outcome → Answer
   pulseAnswer (Refuse n) = answers.Refused n
   pulseAnswer (Wipe p) = answers.Watch p
-  pulseAnswer (Take origin x) = answers.Watch (cond (x .valid) Valid Invalid)
+  pulseAnswer (Take origin x) = answers.Watch (pulseOf (x .valid))
 
   -- ---- what is shown
   abbrev pub overdue : Option ℕ → ℕ → Bool
@@ -115,9 +113,9 @@ module _ (s : Settings) (b : Book) where
 
   unfoldable pub answer : Call → Answer
   answer (calls.Receive now arrival m) = messageAnswer now arrival (m .header) (m .body)
-  answer (calls.Request now room) = ownCall now false (narrow room) (requested (sequence b))
-  answer (calls.Sent now n t3) = ownCall now (fieldOf t3) false (sent n t3)
-  answer (calls.Time now) = unlessBarred (firstOf (ofTime false (ltb now (lastNow b)))) (choiceAnswer now (seats s b))
+  answer (calls.Request now room) = calling (requestDue (staysIn b) now room) (requested (sequence b))
+  answer (calls.Sent now n t3) = calling (ownDue (staysIn b) now (fieldOf t3)) (sent n t3)
+  answer (calls.Time now) = unlessBarred (firstOf (ofTime (timeDue (staysIn b) now))) (choiceAnswer now (seats s b))
   answer calls.Reset = answers.Wiped
   answer (calls.Tick r c) = pulseAnswer (outcome (s .watch) (samples s b) r c)
   answer calls.Line = lineBy (lineSince (s .watch) (samples s b)) (wipeCount b % 2 ^ 32)

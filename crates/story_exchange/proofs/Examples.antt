@@ -4,6 +4,7 @@ use mathlib.Core.Bool.{true, false}
 use mathlib.Core.List.{List, [], _∷_, _++_}
 use Prim.Native.Nat.{ℕ, _+_}
 use lib.IntN.{pos}
+use Rattle.numbers.specs.Grounds.{firstOf}
 use Rattle.numbers.specs.Rounding.{floorZ, roundedOf}
 use Rattle.numbers.specs.Stamps.{moment, belowOf}
 use Rattle.numbers.specs.declared.stamp.Stamp.{Stamp}
@@ -40,19 +41,19 @@ exchange s forward back = happens (resp s back) ∷ before-answer s forward
 
 -- the third PATH in a row, among finished measurements, wipes; a wipe between breaks the row
 third-path : answerByHistory (before-answer 4 9000000 ++ (exchange 3 9000000 9000000 ++ (exchange 2 9000000 9000000 ++ exchange 1 10000 10000))) (resp 4 9000000) ≡ Says PathWiped
-unfolding answerByHistory log answer answerUnbarred eventsIn answersIn all since lastTwo samePort moment belowOf floorZ roundedOf forwardOf backOf sumOf countBelow middling firstMiddling
+unfolding answerByHistory log answer firstOf answerUnbarred eventsIn answersIn all since lastTwo samePort moment belowOf floorZ roundedOf forwardOf backOf sumOf countBelow middling firstMiddling
 third-path = refl
 
 not-third : answerByHistory (before-answer 4 9000000 ++ (exchange 3 9000000 9000000 ++ (wiped ∷ (exchange 2 9000000 9000000 ++ exchange 1 10000 10000)))) (resp 4 9000000)
     ≡ Says (measuredWith 9000000 9000000 (pos 0))
-unfolding answerByHistory log answer answerUnbarred eventsIn answersIn all since lastTwo samePort moment belowOf floorZ roundedOf forwardOf backOf sumOf countBelow middling firstMiddling
+unfolding answerByHistory log answer firstOf answerUnbarred eventsIn answersIn all since lastTwo samePort moment belowOf floorZ roundedOf forwardOf backOf sumOf countBelow middling firstMiddling
 not-third = refl
 
 -- a second Delay_Resp finds nothing, and a t2 of an earlier second is BACK
 twice : answerByHistory (exchange 1 10500 10000) (resp 1 10000) ≡ Refused Unmatched
-unfolding answerByHistory log answer answerUnbarred eventsIn answersIn all since lastTwo samePort moment belowOf floorZ roundedOf forwardOf backOf sumOf countBelow middling firstMiddling
+unfolding answerByHistory log answer firstOf answerUnbarred eventsIn answersIn all since lastTwo samePort moment belowOf floorZ roundedOf forwardOf backOf sumOf countBelow middling firstMiddling
 twice = refl
 
 back : answerByHistory (exchange 2 10500 10000) (sync true 9 (pos 0) (at 0 0) (at 1 0)) ≡ Says Back
-unfolding answerByHistory log answer answerUnbarred eventsIn answersIn all since lastTwo samePort moment belowOf floorZ roundedOf forwardOf backOf sumOf countBelow middling firstMiddling
+unfolding answerByHistory log answer firstOf answerUnbarred eventsIn answersIn all since lastTwo samePort moment belowOf floorZ roundedOf forwardOf backOf sumOf countBelow middling firstMiddling
 back = refl

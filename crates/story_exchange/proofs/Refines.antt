@@ -3,6 +3,8 @@ use mathlib.Core.Path.{_≡_, refl}
 use mathlib.Core.List.{List, [], _∷_}
 use mathlib.Core.Bool.{Bool, true, false, cond}
 use Rattle.numbers.specs.declared.refusal.Refusal.the-variants.{Correction}
+use Rattle.numbers.specs.declared.ruling.Ruling.the-variants.{Clear, Barred}
+use Rattle.numbers.specs.Grounds.{firstOf, answerBy}
 use Rattle.rules_exchange.specs.declared.Exchange.{Exchange}
 use Rattle.rules_exchange.specs.declared.Answer.the-variants.{Refused}
 use Rattle.rules_exchange.specs.Table.{Event, sync, followUp, requested, sent, delayResp}
@@ -26,10 +28,10 @@ module _ (l : Log) (x : Exchange) (h : Tells l x) where
 
   -- one event
   pub step : (e : Event) → Agrees l e (answer l e) (told x e)
-  unfolding answer
+  unfolding answer firstOf
   step e = rw (told-is x e) (go (correctionIn e))
     where
-      go : (b : Bool) → Agrees l e (cond b (Refused Correction) (answerUnbarred l e)) (cond b (refused Correction x) (tellsOf x e))
+      go : (b : Bool) → Agrees l e (answerBy Refused (answerUnbarred l e) (cond b (Barred Correction) Clear)) (cond b (refused Correction x) (tellsOf x e))
       go true = refusing l x h e Correction
       go false = by-event e
 

@@ -4,7 +4,7 @@ use mathlib.Core.Option.{Option, none, some}
 use mathlib.Core.Bool.{Bool, true, false, _&&_}
 use Prim.Native.Nat.{ℕ}
 use Rattle.numbers.specs.declared.stamp.Stamp.{Stamp}
-use Rattle.rules_exchange.specs.Said.{Verdict, neg, long, huge, path, step, accepted, verdictOf}
+use Rattle.rules_exchange.specs.Said.{Verdict, rejected, huge, path, accepted, verdictOf}
 use Rattle.rules_exchange.specs.Table.{Event}
 use Rattle.story_lists.specs.Reading.{all, since, newest, or-else}
 use Rattle.story_exchange.specs.Log.{Log, eventsIn, answersIn, Origin, ASync, aSync, aFollowUp, aRequest, aT3, aDelayResp, aLocal, aDelay, aUsed}
@@ -46,19 +46,15 @@ abbrev pub verdicts : Log → List Verdict
 verdicts l = all verdictOf (answersIn l)
 
 abbrev pub isHuge : Verdict → Bool
-isHuge neg = false
-isHuge long = false
+isHuge rejected = false
 isHuge huge = true
 isHuge path = false
-isHuge (step o) = false
 isHuge (accepted d u o) = false
 
 abbrev pub isPath : Verdict → Bool
-isPath neg = false
-isPath long = false
+isPath rejected = false
 isPath huge = false
 isPath path = true
-isPath (step o) = false
 isPath (accepted d u o) = false
 
 -- one more such is the third in a row: the last two finished measurements were so

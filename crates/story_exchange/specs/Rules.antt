@@ -7,8 +7,10 @@ use lib.Dec.{leb, ltb, eqb}
 use lib.IntN.{ℤ, pos, _+ℤ_, _-ℤ_}
 use lib.ListN.{take}
 use Rattle.numbers.specs.Stamps.{belowOf}
+use Rattle.numbers.specs.Grounds.{firstOf, answerBy, noneDue}
+use Rattle.numbers.specs.Orders.{ofExchange}
 use Rattle.numbers.specs.declared.stamp.Stamp.{Stamp}
-use Rattle.numbers.specs.declared.refusal.Refusal.the-variants.{Correction, Unmatched}
+use Rattle.numbers.specs.declared.refusal.Refusal.the-variants.{Unmatched}
 use Rattle.rules_exchange.specs.declared.Answer.{Answer}
 use Rattle.rules_exchange.specs.declared.Answer.the-variants.{Refused, Says}
 use Rattle.rules_exchange.specs.declared.said.Said.{Said}
@@ -19,7 +21,7 @@ use Rattle.rules_delays.specs.Median.{lowerMiddle}
 use Rattle.rules_delays.specs.Delays.{distanceOf}
 use Rattle.rules_measure.specs.Measure.{ns, forwardOf, backOf, sumOf, hugeOf, isStep}
 use Rattle.rules_exchange.specs.Table.{Event, sync, followUp, requested, sent, delayResp, samePort}
-use Rattle.rules_exchange.specs.Events.{correctionIn, measuredWith}
+use Rattle.rules_exchange.specs.Events.{eventDue, measuredWith}
 use Rattle.story_exchange.specs.Log.{Log, Origin, ASync}
 use Rattle.story_exchange.specs.Held.{heldSync, origin, pending, t3, lastLocal, verdicts, isHuge, isPath, lastTwo, delays, lastDelay, lastUsed}
 
@@ -89,7 +91,7 @@ responded l none back = Refused Unmatched
 responded l (some forward) none = Refused Unmatched
 responded l (some forward) (some back) = Says (judged l forward (sumOf (forward +ℤ back)))
 
--- ---- the whole: CORRECTION before UNMATCHED
+-- ---- the whole: what bars the event whatever is held, and then what is held
 unfoldable pub answerUnbarred : Log → Event → Answer
 answerUnbarred l (sync two n c t1 t2) = Says (unlessBack l t2 Held)
 answerUnbarred l (followUp n c t1) = cond (wantsT1 (heldSync l) (origin l) n) (Says Paired) (Refused Unmatched)
@@ -99,4 +101,4 @@ answerUnbarred l (delayResp n c t4 p own) =
     cond (samePort p own) (responded l (forwardBy (heldSync l) (origin l)) (backBy (pending l) (t3 l) n t4 c)) (Refused Unmatched)
 
 unfoldable pub answer : Log → Event → Answer
-answer l e = cond (correctionIn e) (Refused Correction) (answerUnbarred l e)
+answer l e = answerBy Refused (answerUnbarred l e) (firstOf (ofExchange (eventDue e noneDue)))

@@ -8,7 +8,7 @@ use Rattle.rules_masters.specs.declared.record.Announce.{Announce}
 use Rattle.rules_masters.specs.declared.record.Record.{Record}
 use Rattle.rules_masters.specs.Records.{qualifiedOf}
 use Rattle.rules_masters.specs.Comparison.{betterOf}
-use Rattle.rules_masters.specs.Choosing.{those, keptAmong, choiceAmong, asChoice}
+use Rattle.rules_masters.specs.Choosing.{those, keptAmong, choiceAmong}
 use Rattle.rules_masters.specs.Holding.{chosenOf}
 use Rattle.rules_masters.specs.Places.{placeOf, countOf}
 use Rattle.story_lists.specs.Reading.{all, with-it}
@@ -67,7 +67,7 @@ kept-same r (n ∷ t) =
     go true = refl
     go false = refl
 
-pub choice-same : (t : List Record) → chosenOf (asChoice (choiceAmong betterOf t)) ≡ asMaster (choiceAmong betterAnnounce (announces t))
+pub choice-same : (t : List Record) → chosenOf (choiceAmong betterOf t) ≡ asMaster (choiceAmong betterAnnounce (announces t))
 unfolding choiceAmong
 choice-same [] = refl
 choice-same (r ∷ t) = ap (λ (m : Announce). asMaster (some m)) (kept-same r t)

@@ -34,7 +34,7 @@ use Rattle.unit_core.specs.declared.calls.Answer.the-variants as answers
 use Rattle.rules_settings.specs.Ranges.{settingsOf}
 use Rattle.unit_core.specs.Effects.{Effect, keeps, goes, takes, wipes, unless, staysOf, progressOf}
 use Rattle.unit_core.specs.Answers.{isRefusal, wipesOf}
-use Rattle.unit_measuring.specs.Measuring.{meaningOf, exchanges}
+use Rattle.unit_measuring.specs.Measuring.{bySaid, exchanges}
 use Rattle.unit_measuring.specs.Asking.{requestGrounds, withNextSequence, requests}
 use Rattle.unit_ticking.specs.Ticking.{lineBy}
 use Rattle.unit_measuring.specs.Frame.{frameBy, frameAfter}
@@ -56,7 +56,7 @@ refusal-keeps c call e = refused-same c call e
 frame-by : (c : Unit) (now : ℕ) (v : Ruling) (f : List ℕ)
     → isRefusal (applied c (c .table) (unless v (exchanges (c .core .settings) (withNextSequence now (staysOf (c .core))) (progressOf (c .core) (c .servo)) (tellsOf (c .core .domain .run .exchange) (requested (c .core .domain .sequence))))) .answer) ≡ true
     → frameBy v (requestOf (c .core .settings .domain) (c .core .settings .own) (c .core .domain .sequence)) f ≡ f
-unfolding tellsOf rowBy stampTaken meaningOf
+unfolding tellsOf rowBy stampTaken bySaid
 frame-by c now Clear f e = absurd (never e)
 frame-by c now (Barred n) f e = refl
 

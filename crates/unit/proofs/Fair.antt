@@ -1,10 +1,9 @@
 -- What every call's effect has in common: what changes anything is no refusal, the answer says that it wiped exactly where the call wipes, and the
 -- output stays within the limit.
 use mathlib.Core.Path.{_≡_, refl}
-use mathlib.Core.Bool.{Bool, true, false, not}
+use mathlib.Core.Bool.{Bool, true, false}
 use Prim.Native.Nat.{ℕ, _≤_}
 use native.Mathlib.Omega.{arith}
-use lib.Dec.{ltb}
 use lib.IntN.{natAbs}
 use Rattle.numbers.specs.Integers.{up}
 use Rattle.numbers.specs.declared.stamp.Stamp.{Stamp}
@@ -27,15 +26,16 @@ use Rattle.rules_exchange.specs.declared.Answer.{Answer as Told}
 use Rattle.rules_exchange.specs.declared.Answer.the-variants as tells
 use Rattle.rules_exchange.specs.declared.Answered.{Answered}
 use Rattle.rules_exchange.specs.Table.{Event, sync, followUp, requested, sent, delayResp}
-use Rattle.rules_exchange.specs.Events.{fieldOf, correctionIn, unmatchedOf, tellsOf}
+use Rattle.rules_exchange.specs.Events.{fieldOf, exchangeDue, tellsOf}
 use Rattle.rules_servo.specs.Steps.{heldOffset}
 use Rattle.rules_servo.proofs.Theorems.{output-kept}
 use Rattle.rules_settings.specs.declared.Settings.{Settings}
 use Rattle.unit_core.specs.Effects.{Stays, Progress, Effect, keeps, goes, takes, wipes, unless, withNow}
 use Rattle.unit_core.specs.Answers.{isRefusal, wipesOf}
-use Rattle.unit_choosing.specs.Choosing.{admission, chooses, admits, announces, timePasses}
-use Rattle.unit_measuring.specs.Measuring.{meaningOf, byAnswer, exchanges}
-use Rattle.unit_measuring.specs.Hearing.{twoStepIn, fromElsewhere, fromAnother, hearsEvent, hears}
+use Rattle.unit_choosing.specs.Choosing.{timeDue, admission, chooses, admits, announces, timePasses}
+use Rattle.unit_measuring.specs.Measuring.{bySaid, byAnswer, exchanges}
+use Rattle.unit_measuring.specs.Barring.{messageDue, ownDue}
+use Rattle.unit_measuring.specs.Hearing.{twoStepIn, hearsEvent, hears}
 use Rattle.unit_measuring.specs.Asking.{requestGrounds, withNextSequence, requests, sends}
 use Rattle.unit_ticking.proofs.Pulses.{byTest}
 
@@ -61,7 +61,7 @@ module _ (s : Settings) (k : Stays) (r : Progress) (most : ℕ) (limit : up (s .
   fair-admits t now (answers.Entered place) = fair-chooses t now
 
   fair-answer : (m : Stays) (a : Told) (x : Exchange) → Fair most (byAnswer s m r a x)
-  unfolding meaningOf
+  unfolding bySaid
   fair-answer m (tells.Refused n) x = refl
   fair-answer m (tells.Says says.Held) x = (refl, (refl, within))
   fair-answer m (tells.Says says.Paired) x = (refl, (refl, within))
@@ -85,7 +85,7 @@ module _ (s : Settings) (k : Stays) (r : Progress) (most : ℕ) (limit : up (s .
   fair-exchanged v m a = fair-unless v (exchanges s m r a) (fair-answer m (a .answer) (a .exchange))
 
   fair-event : (now : ℕ) (h : Header) (field : Bool) (e : Event) → Fair most (hearsEvent s k r now h field e)
-  fair-event now h field e = fair-exchanged (firstOf (ofExchange field (ltb now (k .now)) (k .faulty) (fromElsewhere s h) (fromAnother k h) (correctionIn e) (unmatchedOf (r .exchange) e) false)) (withNow now k) (tellsOf (r .exchange) e)
+  fair-event now h field e = fair-exchanged (firstOf (ofExchange (exchangeDue (r .exchange) e (messageDue s k now h field)))) (withNow now k) (tellsOf (r .exchange) e)
 
   pub fair-heard : (now : ℕ) (t2 : Stamp) (h : Header) (b : Body) → Fair most (hears s k r now t2 h b)
   unfolding hears
@@ -105,8 +105,8 @@ module _ (s : Settings) (k : Stays) (r : Progress) (most : ℕ) (limit : up (s .
 
   pub fair-sent : (now sequence : ℕ) (t3 : Stamp) → Fair most (sends s k r now sequence t3)
   unfolding sends
-  fair-sent now sequence t3 = fair-exchanged (firstOf (ofExchange (fieldOf t3) (ltb now (k .now)) (k .faulty) false (not (k .chosen .some)) false (unmatchedOf (r .exchange) (sent sequence t3)) false)) (withNow now k) (tellsOf (r .exchange) (sent sequence t3))
+  fair-sent now sequence t3 = fair-exchanged (firstOf (ofExchange (exchangeDue (r .exchange) (sent sequence t3) (ownDue k now (fieldOf t3))))) (withNow now k) (tellsOf (r .exchange) (sent sequence t3))
 
   pub fair-time : (t : Table) (now : ℕ) → Fair most (timePasses s k r t now)
   unfolding timePasses
-  fair-time t now = fair-unless (firstOf (ofTime false (ltb now (k .now)))) (chooses s k r t now) (fair-chooses t now)
+  fair-time t now = fair-unless (firstOf (ofTime (timeDue k now))) (chooses s k r t now) (fair-chooses t now)

@@ -1,8 +1,7 @@
 -- Only a reset ends FAULTY: no other call's effect does.
 use mathlib.Core.Path.{_≡_, refl}
-use mathlib.Core.Bool.{Bool, true, false, not}
+use mathlib.Core.Bool.{Bool, true, false}
 use Prim.Native.Nat.{ℕ}
-use lib.Dec.{ltb}
 use Rattle.numbers.specs.declared.stamp.Stamp.{Stamp}
 use Rattle.numbers.specs.declared.ruling.Ruling.{Ruling}
 use Rattle.numbers.specs.declared.ruling.Ruling.the-variants.{Clear, Barred}
@@ -18,20 +17,20 @@ use Rattle.rules_masters.specs.declared.admission.Answer.the-variants as answer
 use Rattle.rules_masters.specs.Holding.{chosenAt, sameMasterOf}
 use Rattle.rules_exchange.specs.declared.Exchange.{Exchange}
 use Rattle.rules_exchange.specs.declared.said.Said.{Said}
+use Rattle.rules_exchange.specs.Said.{wipesOf, faultsOf, steersOf}
 use Rattle.rules_exchange.specs.declared.Answer.{Answer as Told}
 use Rattle.rules_exchange.specs.declared.Answer.the-variants as tells
 use Rattle.rules_exchange.specs.declared.Answered.{Answered}
 use Rattle.rules_exchange.specs.Table.{Event, sync, followUp, requested, sent, delayResp}
-use Rattle.rules_exchange.specs.Events.{fieldOf, correctionIn, unmatchedOf, tellsOf}
+use Rattle.rules_exchange.specs.Events.{fieldOf, exchangeDue, tellsOf}
 use Rattle.rules_watch.specs.declared.judging.Outcome.{Outcome}
 use Rattle.rules_watch.specs.declared.judging.Outcome.the-variants.{Refuse, Wipe, Take}
 use Rattle.rules_settings.specs.declared.Settings.{Settings}
 use Rattle.unit_core.specs.Effects.{Stays, Progress, Effect, keeps, goes, takes, wipes, unless, withNow}
-use Rattle.unit_choosing.specs.Choosing.{admission, chooses, admits, announces, timePasses}
-use Rattle.unit_measuring.specs.declared.Meaning.{Meaning}
-use Rattle.unit_measuring.specs.declared.Meaning.the-variants.{Goes, Faults, Wipes, Steers}
-use Rattle.unit_measuring.specs.Measuring.{meaningOf, byMeaning, byAnswer, exchanges}
-use Rattle.unit_measuring.specs.Hearing.{twoStepIn, fromElsewhere, fromAnother, hearsEvent, hears}
+use Rattle.unit_choosing.specs.Choosing.{timeDue, admission, chooses, admits, announces, timePasses}
+use Rattle.unit_measuring.specs.Measuring.{bySaid, byAnswer, exchanges}
+use Rattle.unit_measuring.specs.Barring.{messageDue, ownDue}
+use Rattle.unit_measuring.specs.Hearing.{twoStepIn, hearsEvent, hears}
 use Rattle.unit_measuring.specs.Asking.{requestGrounds, withNextSequence, requests, sends}
 use Rattle.unit_ticking.specs.Ticking.{ticks}
 use Rattle.unit_ticking.proofs.Pulses.{byTest}
@@ -63,23 +62,21 @@ module _ (s : Settings) (k : Stays) (r : Progress) (faulty : k .faulty ≡ true)
 
   pub lasts-time : (t : Table) (now : ℕ) → Lasting (timePasses s k r t now)
   unfolding timePasses
-  lasts-time t now = lasts-unless (firstOf (ofTime false (ltb now (k .now)))) (chooses s k r t now) (lasts-chooses t now)
+  lasts-time t now = lasts-unless (firstOf (ofTime (timeDue k now))) (chooses s k r t now) (lasts-chooses t now)
 
-  lasts-meaning : (m : Stays) → m .faulty ≡ true → (x : Exchange) (said : Said) (a : Meaning) → Lasting (byMeaning s m r x said a)
-  lasts-meaning m f x said Goes = f
-  lasts-meaning m f x said Faults = refl
-  lasts-meaning m f x said Wipes = f
-  lasts-meaning m f x said (Steers found) = f
+  lasts-said : (m : Stays) → m .faulty ≡ true → (x : Exchange) (said : Said) → Lasting (bySaid s m r x said)
+  unfolding bySaid
+  lasts-said m f x said = byTest Lasting (wipesOf said) f (byTest Lasting (faultsOf said) refl (byTest Lasting (steersOf said) f f))
 
   lasts-answer : (m : Stays) → m .faulty ≡ true → (a : Told) (x : Exchange) → Lasting (byAnswer s m r a x)
   lasts-answer m f (tells.Refused n) x = tt
-  lasts-answer m f (tells.Says said) x = lasts-meaning m f x said (meaningOf said)
+  lasts-answer m f (tells.Says said) x = lasts-said m f x said
 
   lasts-exchanged : (v : Ruling) (m : Stays) → m .faulty ≡ true → (a : Answered) → Lasting (unless v (exchanges s m r a))
   lasts-exchanged v m f a = lasts-unless v (exchanges s m r a) (lasts-answer m f (a .answer) (a .exchange))
 
   lasts-event : (now : ℕ) (h : Header) (field : Bool) (e : Event) → Lasting (hearsEvent s k r now h field e)
-  lasts-event now h field e = lasts-exchanged (firstOf (ofExchange field (ltb now (k .now)) (k .faulty) (fromElsewhere s h) (fromAnother k h) (correctionIn e) (unmatchedOf (r .exchange) e) false)) (withNow now k) faulty (tellsOf (r .exchange) e)
+  lasts-event now h field e = lasts-exchanged (firstOf (ofExchange (exchangeDue (r .exchange) e (messageDue s k now h field)))) (withNow now k) faulty (tellsOf (r .exchange) e)
 
   pub lasts-heard : (now : ℕ) (t2 : Stamp) (h : Header) (b : Body) → Lasting (hears s k r now t2 h b)
   unfolding hears
@@ -95,7 +92,7 @@ module _ (s : Settings) (k : Stays) (r : Progress) (faulty : k .faulty ≡ true)
 
   pub lasts-sent : (now sequence : ℕ) (t3 : Stamp) → Lasting (sends s k r now sequence t3)
   unfolding sends
-  lasts-sent now sequence t3 = lasts-exchanged (firstOf (ofExchange (fieldOf t3) (ltb now (k .now)) (k .faulty) false (not (k .chosen .some)) false (unmatchedOf (r .exchange) (sent sequence t3)) false)) (withNow now k) faulty (tellsOf (r .exchange) (sent sequence t3))
+  lasts-sent now sequence t3 = lasts-exchanged (firstOf (ofExchange (exchangeDue (r .exchange) (sent sequence t3) (ownDue k now (fieldOf t3))))) (withNow now k) faulty (tellsOf (r .exchange) (sent sequence t3))
 
   pub lasts-tick : (o : Outcome) → Lasting (ticks k o)
   lasts-tick (Refuse n) = tt

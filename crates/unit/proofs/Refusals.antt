@@ -20,7 +20,7 @@ use Rattle.rules_watch.specs.Watch.{sinceOf}
 use Rattle.unit_core.specs.declared.calls.Call.{Call}
 use Rattle.unit_core.specs.declared.calls.Call.the-variants.{Receive, Request, Sent, Time, Reset, Tick, Line, Show}
 use Rattle.unit_core.specs.declared.calls.Answer.the-variants.{Watch as Watched}
-use Rattle.rules_watch.specs.declared.Pulse.the-variants.{Valid, Invalid}
+use Rattle.rules_watch.specs.Rules.{pulseOf}
 use Rattle.unit_core.specs.Effects.{Effect, keeps, goes, takes, wipes, staysOf, progressOf, movedBy}
 use Rattle.unit_core.specs.Answers.{isRefusal}
 use Rattle.unit_choosing.specs.Choosing.{chooses, admits, announces}
@@ -89,7 +89,7 @@ module _ (c : Unit) where
   same-fair (takes origin x) f h = absurd f
   same-fair (wipes a k) f h = absurd (never (sym (f .0) ∙ h))
 
-  marked : (b : Bool) → isRefusal (Watched (cond b Valid Invalid)) ≡ true → ⊥
+  marked : (b : Bool) → isRefusal (Watched (pulseOf b)) ≡ true → ⊥
   marked true h = never h
   marked false h = never h
 
@@ -103,7 +103,7 @@ module _ (c : Unit) where
   same-rest (Time now) = same-by (Time now) (fair c (Time now))
   same-rest Reset = same-by Reset (fair c Reset)
   same-rest (Tick reference clock) =
-      every-outcome (λ o. Same (ticks (staysOf (c .core)) o)) (λ h. refl) (λ h. absurd (never h)) (λ h. absurd (never h)) (λ h. absurd (never h))
+      every-outcome (λ o. Same (ticks (staysOf (c .core)) o)) (λ n h. refl) (λ a k h. absurd (never h))
       (λ origin x h. absurd (marked (x .valid) h))
       (c .core .settings .watch) (sinceOf (c .watch)) reference clock
   same-rest Line = same-by Line (fair c Line)

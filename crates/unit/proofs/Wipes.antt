@@ -1,7 +1,7 @@
 -- An answer says that the unit was wiped exactly where the call wipes.
 use mathlib.Core.Path.{_≡_, refl}
 use mathlib.Core.Bool.{Bool, true, false, cond}
-use Rattle.rules_watch.specs.declared.Pulse.the-variants.{Valid, Invalid}
+use Rattle.rules_watch.specs.Rules.{pulseOf}
 use Rattle.rules_watch.specs.Watch.{sinceOf}
 use Rattle.unit_core.specs.declared.calls.Call.{Call}
 use Rattle.unit_core.specs.declared.calls.Call.the-variants.{Receive, Request, Sent, Time, Reset, Tick, Line, Show}
@@ -26,7 +26,7 @@ module _ (c : Unit) where
   by-fair (takes origin x) f = absurd f
   by-fair (wipes a k) f = f .1
 
-  marked : (b : Bool) → wipesOf (Watched (cond b Valid Invalid)) ≡ false
+  marked : (b : Bool) → wipesOf (Watched (pulseOf b)) ≡ false
   marked true = refl
   marked false = refl
 
@@ -40,6 +40,6 @@ module _ (c : Unit) where
   says-wiped (Time now) = by-call (Time now) (fair c (Time now))
   says-wiped Reset = by-call Reset (fair c Reset)
   says-wiped (Tick reference clock) =
-      every-outcome (λ o. Says (ticks (staysOf (c .core)) o)) refl refl refl refl (λ origin x. marked (x .valid)) (c .core .settings .watch) (sinceOf (c .watch)) reference clock
+      every-outcome (λ o. Says (ticks (staysOf (c .core)) o)) (λ n. refl) (λ a k. k) (λ origin x. marked (x .valid)) (c .core .settings .watch) (sinceOf (c .watch)) reference clock
   says-wiped Line = by-call Line (fair c Line)
   says-wiped Show = by-call Show (fair c Show)

@@ -2,18 +2,17 @@
 -- the last wipe in place of the window, and every wipe counted. Nobody has to believe it: the story is told above it, without any record, and this
 -- machine is proved to answer as the story does.
 use Prim.Native.Nat.{ℕ, suc, _%_, _^_}
-use mathlib.Core.Bool.{Bool, true, false, cond}
+use mathlib.Core.Bool.{Bool, true, false}
 use mathlib.Core.List.{List, [], _∷_, _++_}
 use Rattle.rules_masters.specs.declared.table.Table.{Table}
 use Rattle.rules_masters.specs.Places.{freshTable}
 use Rattle.rules_masters.specs.Holding.{freshChosen}
 use Rattle.rules_watch.specs.declared.window.Sample.{Sample}
-use Rattle.rules_watch.specs.Rules.{Since, freshSince, outcome, windowOf, lineSince}
+use Rattle.rules_watch.specs.Rules.{Since, freshSince, pulseOf, outcome, windowOf, lineSince}
 use Rattle.rules_settings.specs.declared.Settings.{Settings}
 use Rattle.unit_core.specs.declared.calls.Call.{Call}
 use Rattle.unit_core.specs.declared.calls.Answer.{Answer}
 use Rattle.unit_core.specs.declared.calls.Answer.the-variants.{Watch as Watched}
-use Rattle.rules_watch.specs.declared.Pulse.the-variants.{Valid, Invalid}
 use Rattle.unit_core.specs.Effects.{Stays, Progress, freshProgress, Effect, keeps, goes, takes, wipes}
 use Rattle.unit.specs.Calls.{effectOf, tableAfter}
 
@@ -53,9 +52,6 @@ isWipe (goes a k r) = false
 isWipe (takes origin x) = false
 isWipe (wipes a k) = true
 
-abbrev pub wipesAfter : Settings → Past → Call → Bool
-wipesAfter s p call = isWipe (effectAfter s p call)
-
 -- the past with one call more, where t is the table after it
 abbrev pub pastBy : Settings → Past → Table → Effect → Past
 pastBy s p t (keeps a) = record { stays = p .stays; table = t; progress = p .progress; since = p .since; count = p .count }
@@ -71,7 +67,7 @@ pastAfter s p call = pastBy s p (tableAfter s (p .stays) (p .table) call) (effec
 abbrev pub effectAnswer : Effect → Answer
 effectAnswer (keeps a) = a
 effectAnswer (goes a k r) = a
-effectAnswer (takes origin x) = Watched (cond (x .valid) Valid Invalid)
+effectAnswer (takes origin x) = Watched (pulseOf (x .valid))
 effectAnswer (wipes a k) = a
 
 -- ---- the list of calls

@@ -1,8 +1,9 @@
 -- What an Announce and the bare time call do.
 use Prim.Native.Nat.{ℕ}
-use mathlib.Core.Bool.{false, cond}
+use mathlib.Core.Bool.{cond}
 use lib.Dec.{ltb}
-use Rattle.numbers.specs.Grounds.{firstOf}
+use Rattle.numbers.specs.declared.refusal.Refusal.the-variants.{Now}
+use Rattle.numbers.specs.Grounds.{Due, firstOf, noneDue, dueWith}
 use Rattle.numbers.specs.Orders.{ofTime}
 use Rattle.rules_masters.specs.declared.record.Announce.{Announce}
 use Rattle.rules_masters.specs.declared.table.Table.{Table}
@@ -19,6 +20,10 @@ use Rattle.unit_core.specs.Effects.{Stays, Progress, Effect, keeps, goes, wipes
 
 abbrev pub withChosen : Stays → ℕ → Chosen → Stays
 withChosen k now c = record { now = now; chosen = c; faulty = k .faulty; sequence = k .sequence }
+
+-- what bars the bare time call; its table is of five
+abbrev pub timeDue : Stays → (now : ℕ) → Due
+timeDue k now = dueWith Now (ltb now (k .now)) noneDue
 
 -- the table's answer to an Announce, and the table after it, which a refusal leaves as it was
 abbrev pub admission : Settings → Stays → Table → ℕ → Announce → Admitted
@@ -39,9 +44,9 @@ module _ (s : Settings) (k : Stays) (r : Progress) (t : Table) (now : ℕ) where
   admits (Renewed place) = chooses
   admits (Entered place) = chooses
 
-  -- the bare time call; its table is of five
+  -- the bare time call
   unfoldable pub timePasses : Effect
-  timePasses = unless (firstOf (ofTime false (ltb now (k .now)))) chooses
+  timePasses = unless (firstOf (ofTime (timeDue k now))) chooses
 
 -- an Announce: the choice is made over the table after it
 unfoldable pub announces : Settings → Stays → Progress → Table → ℕ → Announce → Effect

@@ -5,9 +5,9 @@ ghost use Rattle.unit_choosing.specs.Choosing.{admission, holds, admits,
 use numbers::refusal::Refusal;
 use rules_masters::admission;
 use rules_masters::admission::admit;
+use rules_masters::choice::chosen_at;
 use rules_masters::chosen::Chosen;
 use rules_masters::chosen::Decision;
-use rules_masters::chosen::chosen_at;
 use rules_masters::record::Announce;
 use rules_masters::table::Table;
 use rules_servo::Servo;

@@ -1,6 +1,6 @@
 -- What a call can do to the unit, and core and servo after it.
 use Prim.Native.Nat.{ℕ}
-use mathlib.Core.Bool.{Bool, true, false, cond}
+use mathlib.Core.Bool.{Bool, true, false}
 use lib.IntN.{ℤ}
 use Rattle.numbers.specs.declared.ruling.Ruling.{Ruling}
 use Rattle.numbers.specs.declared.ruling.Ruling.the-variants.{Clear, Barred}
@@ -13,7 +13,7 @@ use Rattle.unit_core.specs.declared.run.Run.{Run}
 use Rattle.unit_core.specs.declared.Core.{Core}
 use Rattle.unit_core.specs.declared.Moved.{Moved}
 use Rattle.unit_core.specs.declared.calls.Answer.{Answer}
-use Rattle.rules_watch.specs.declared.Pulse.the-variants.{Valid, Invalid}
+use Rattle.rules_watch.specs.Rules.{pulseOf}
 use Rattle.unit_core.specs.declared.calls.Answer.the-variants.{Refused, Watch as Watched}
 use Rattle.unit_core.specs.Wipe.{freshRun, restoredServo, oneMore}
 
@@ -87,5 +87,5 @@ wipedCore u a k =
 abbrev pub movedBy : Core → Servo → Effect → Moved
 movedBy u v (keeps a) = keptCore u v a
 movedBy u v (goes a k r) = record { answer = a; wipes = false; core = coreWith (u .settings) k (runOf r) (u .domain .wipes); servo = r .servo }
-movedBy u v (takes origin x) = keptCore u v (Watched (cond (x .valid) Valid Invalid))
+movedBy u v (takes origin x) = keptCore u v (Watched (pulseOf (x .valid)))
 movedBy u v (wipes a k) = wipedCore u a k

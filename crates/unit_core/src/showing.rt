@@ -27,14 +27,14 @@ fn port(faulty: bool, chosen: bool, measured: bool) -> PortState
 }
 
 impl Core {
-    pub fn show(self, servo: Servo) -> Answer
-        ensures { λ r. ⌜ r ≡ Answer.Shows (showsOf (staysOf self) (progressOf self servo) (self .domain .wipes)) ⌝ }
+    pub fn shows(self, servo: Servo) -> Shows
+        ensures { λ r. ⌜ r ≡ showsOf (staysOf self) (progressOf self servo) (self .domain .wipes) ⌝ }
     {
         let domain = self.domain;
         let run = domain.run;
         let output = servo.output;
         let master = domain.chosen;
-        Answer::Shows(Shows {
+        Shows {
             port: port(domain.faulty, master.some, run.measured),
             servo: servo.shows(holdover(run.measured, run.at, self.now)),
             output,
@@ -42,6 +42,12 @@ impl Core {
             master,
             wipes: domain.wipes,
             sequence: domain.sequence,
-        })
+        }
+    }
+
+    pub fn show(self, servo: Servo) -> Answer
+        ensures { λ r. ⌜ r ≡ Answer.Shows (showsOf (staysOf self) (progressOf self servo) (self .domain .wipes)) ⌝ }
+    {
+        Answer::Shows(self.shows(servo))
     }
 }

@@ -11,29 +11,22 @@ use Rattle.wire_layout.specs.declared.message.Port.{Port}
 use Rattle.wire_layout.specs.declared.message.Header.{Header}
 use Rattle.wire_layout.specs.declared.message.Body.{Body}
 use Rattle.wire_layout.specs.declared.message.Body.the-variants.{Sync, DelayReq, FollowUp, DelayResp, Announce}
-use Rattle.rules_masters.specs.Holding.{isMaster}
 use Rattle.rules_exchange.specs.Table.{Event, sync, followUp, delayResp}
-use Rattle.rules_exchange.specs.Events.{fieldOf, correctionIn, unmatchedOf, tellsOf}
+use Rattle.rules_exchange.specs.Events.{fieldOf, exchangeDue, tellsOf}
 use Rattle.rules_settings.specs.declared.Settings.{Settings}
 use Rattle.unit_core.specs.declared.calls.Answer.the-variants.{Refused}
 use Rattle.unit_core.specs.Effects.{Stays, Progress, Effect, keeps, unless, withNow}
 use Rattle.unit_measuring.specs.Measuring.{exchanges}
+use Rattle.unit_measuring.specs.Barring.{messageDue}
 
 -- bit 1 of octet 6: the flags are octets 6 and 7, big-endian
 abbrev pub twoStepIn : Header → Bool
 twoStepIn h = eqb (h .flags / 512 % 2) 1
 
--- DOMAIN is due for another domain than the set one, NOT_MASTER where the sender is not the master chosen, or none is
-abbrev pub fromElsewhere : Settings → Header → Bool
-fromElsewhere s h = not (eqb (h .domain) (s .domain))
-
-abbrev pub fromAnother : Stays → Header → Bool
-fromAnother k h = not (isMaster (k .chosen) (h .source))
-
 -- the message tells the exchange of the event e, unless it is refused; a Sync alone brings a t2, which FIELD is asked of
 abbrev pub hearsEvent : Settings → Stays → Progress → ℕ → Header → (field : Bool) → Event → Effect
 hearsEvent s k r now h field e =
-    unless (firstOf (ofExchange field (ltb now (k .now)) (k .faulty) (fromElsewhere s h) (fromAnother k h) (correctionIn e) (unmatchedOf (r .exchange) e) false))
+    unless (firstOf (ofExchange (exchangeDue (r .exchange) e (messageDue s k now h field))))
     (exchanges s (withNow now k) r (tellsOf (r .exchange) e))
 
 -- a Delay_Req is KIND before all else; an Announce is handed over with the table, and is none of the kinds that are heard without it

@@ -2,7 +2,6 @@
 use Prim.Native.Nat.{ℕ}
 use mathlib.Core.Bool.{true, false}
 use mathlib.Core.List.{List, [], _∷_}
-use lib.Dec.{ltb}
 use Rattle.numbers.specs.declared.refusal.Refusal.the-variants.{Kind}
 use Rattle.numbers.specs.declared.stamp.Stamp.{Stamp}
 use Rattle.numbers.specs.Grounds.{Ground, gives}
@@ -18,14 +17,15 @@ use Rattle.rules_exchange.specs.Table.{sync, followUp, delayResp}
 use Rattle.rules_exchange.specs.Events.{fieldOf, told}
 use Rattle.rules_settings.specs.declared.Settings.{Settings}
 use Rattle.unit_core.specs.Effects.{Stays}
-use Rattle.unit_measuring.specs.Hearing.{twoStepIn, fromElsewhere, fromAnother}
+use Rattle.unit_measuring.specs.Hearing.{twoStepIn}
+use Rattle.unit_measuring.specs.Barring.{messageDue}
 
 -- of a message's refusals those that are asked before the exchange's own
 abbrev pub messageGrounds : Settings → Stays → ℕ → Stamp → Header → Body → List Ground
-messageGrounds s k now t2 h (Sync t1) = ofExchange (fieldOf t2) (ltb now (k .now)) (k .faulty) (fromElsewhere s h) (fromAnother k h) false false false
+messageGrounds s k now t2 h (Sync t1) = ofExchange (messageDue s k now h (fieldOf t2))
 messageGrounds s k now t2 h (DelayReq t) = gives Kind true ∷ []
-messageGrounds s k now t2 h (FollowUp t1) = ofExchange false (ltb now (k .now)) (k .faulty) (fromElsewhere s h) (fromAnother k h) false false false
-messageGrounds s k now t2 h (DelayResp t4 requester) = ofExchange false (ltb now (k .now)) (k .faulty) (fromElsewhere s h) (fromAnother k h) false false false
+messageGrounds s k now t2 h (FollowUp t1) = ofExchange (messageDue s k now h false)
+messageGrounds s k now t2 h (DelayResp t4 requester) = ofExchange (messageDue s k now h false)
 messageGrounds s k now t2 h (Announce t offer) = gives Kind true ∷ []
 
 -- what the exchange answers to a message: the other two kinds are barred above

@@ -1,4 +1,5 @@
 pub mod Measuring
+pub mod Barring
 pub mod Hearing
 pub mod Asking
 pub mod Frame

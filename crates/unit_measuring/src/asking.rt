@@ -2,6 +2,8 @@
 ghost use mathlib.Core.Path.{_≡_};
 ghost use Rattle.numbers.specs.Grounds.{firstOf};
 ghost use Rattle.unit_core.specs.Effects.{staysOf, progressOf, movedBy};
+ghost use Rattle.numbers.specs.Orders.{ofExchange};
+ghost use Rattle.unit_measuring.specs.Barring.{ownDue};
 ghost use Rattle.unit_measuring.specs.Asking.{requestGrounds, requests, sends};
 use crate::barred;
 use crate::exchanged;
@@ -13,11 +15,26 @@ use rules_servo::Servo;
 use unit_core::Core;
 use unit_core::Moved;
 
+// 16 of the unit's own calls, behind those of any call.
+pub fn own_barred(core: Core, now: u64, field: bool) -> Ruling
+    ensures { λ r. ⌜ r ≡ firstOf (ofExchange (ownDue (staysOf core) now field)) ⌝ }
+{
+    match barred(core, now, field) {
+        Ruling::Barred(number) => Ruling::Barred(number),
+        Ruling::Clear => {
+            if core.domain.chosen.some {
+                return Ruling::Clear;
+            }
+            Ruling::Barred(Refusal::NotMaster)
+        }
+    }
+}
+
 // 9, 18, 16, 7 of a request into a frame of `room` octets: 14 of Ethernet header, and 44.
-pub(crate) fn request_barred(core: Core, now: u64, room: usize) -> Ruling
+pub fn request_barred(core: Core, now: u64, room: usize) -> Ruling
     ensures { λ r. ⌜ r ≡ firstOf (requestGrounds (staysOf core) now room) ⌝ }
 {
-    match barred(core, now, false, false, !core.domain.chosen.some) {
+    match own_barred(core, now, false) {
         Ruling::Barred(number) => Ruling::Barred(number),
         Ruling::Clear => {
             if room < 58 {
@@ -49,13 +66,7 @@ pub fn request(mut core: Core, servo: Servo, now: u64, room: usize) -> Moved
 pub fn sent(core: Core, servo: Servo, now: u64, sequence: u16, t3: Stamp) -> Moved
     ensures { λ r. ⌜ r ≡ movedBy core servo (sends (core .settings) (staysOf core) (progressOf core servo) now sequence t3) ⌝ }
 {
-    match barred(
-        core,
-        now,
-        refusals::field(t3),
-        false,
-        !core.domain.chosen.some,
-    ) {
+    match own_barred(core, now, refusals::field(t3)) {
         Ruling::Barred(number) => core.refuse(servo, number),
         Ruling::Clear => {
             let held = core.domain.run.exchange;

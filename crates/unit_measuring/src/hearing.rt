@@ -2,6 +2,8 @@
 ghost use mathlib.Core.Path.{_≡_};
 ghost use Rattle.numbers.specs.Grounds.{firstOf};
 ghost use Rattle.unit_core.specs.Effects.{staysOf, progressOf, movedBy};
+ghost use Rattle.numbers.specs.Orders.{ofExchange};
+ghost use Rattle.unit_measuring.specs.Barring.{messageDue};
 ghost use Rattle.unit_measuring.specs.Hearing.{twoStepIn, hears};
 ghost use Rattle.unit_measuring.specs.Inner.{messageGrounds, handed};
 use crate::barred;
@@ -21,7 +23,7 @@ use wire_layout::message::Message;
 use wire_layout::message::Port;
 
 // Bit 1 of octet 6 is bit 9 of the two octets of flags.
-fn two_step(header: Header) -> bool
+pub fn two_step(header: Header) -> bool
     ensures { λ r. ⌜ r ≡ twoStepIn header ⌝ }
 {
     header.flags / 512 % 2 == 1
@@ -48,17 +50,33 @@ fn hand(held: Exchange, own: Port, t2: Stamp, m: Message) -> Answered
     }
 }
 
+// 10 and 16 of a message, behind those of any call.
+fn from_master(core: Core, now: u64, field: bool, header: Header) -> Ruling
+    ensures { λ r. ⌜ r ≡ firstOf (ofExchange (messageDue (core .settings) (staysOf core) now header field)) ⌝ }
+{
+    match barred(core, now, field) {
+        Ruling::Barred(number) => Ruling::Barred(number),
+        Ruling::Clear => {
+            if header.domain != core.settings.domain {
+                return Ruling::Barred(Refusal::Domain);
+            }
+            let chosen = core.domain.chosen;
+            if chosen.is_master(header.source) {
+                return Ruling::Clear;
+            }
+            Ruling::Barred(Refusal::NotMaster)
+        }
+    }
+}
+
 // 3 of a kind that is not heard, before all else; then those that come before the exchange's own. Only a Sync has a t2.
-fn message_barred(core: Core, now: u64, t2: Stamp, header: Header, body: Body) -> Ruling
+pub fn message_barred(core: Core, now: u64, t2: Stamp, header: Header, body: Body) -> Ruling
     ensures { λ r. ⌜ r ≡ firstOf (messageGrounds (core .settings) (staysOf core) now t2 header body) ⌝ }
 {
-    let chosen = core.domain.chosen;
-    let domain = header.domain != core.settings.domain;
-    let master = !chosen.is_master(header.source);
     match body {
-        Body::Sync(_) => barred(core, now, refusals::field(t2), domain, master),
-        Body::FollowUp(_) => barred(core, now, false, domain, master),
-        Body::DelayResp(_, _) => barred(core, now, false, domain, master),
+        Body::Sync(_) => from_master(core, now, refusals::field(t2), header),
+        Body::FollowUp(_) => from_master(core, now, false, header),
+        Body::DelayResp(_, _) => from_master(core, now, false, header),
         _ => Ruling::Barred(Refusal::Kind),
     }
 }

@@ -5,12 +5,11 @@ pub mod frame;
 pub mod hearing;
 
 ghost use mathlib.Core.Path.{_≡_};
-ghost use mathlib.Core.Bool.{false};
-ghost use lib.Dec.{ltb};
 ghost use Rattle.numbers.specs.Grounds.{firstOf};
 ghost use Rattle.numbers.specs.Orders.{ofExchange};
 ghost use Rattle.unit_core.specs.Effects.{goes, staysOf, progressOf, withNow, movedBy};
-ghost use Rattle.unit_measuring.specs.Measuring.{withExchange, progressAfter, outputAfter, faultyAt, meaningOf, byAnswer};
+ghost use Rattle.unit_measuring.specs.Measuring.{withExchange, progressAfter, outputAfter, faultyAt, bySaid, byAnswer};
+ghost use Rattle.unit_measuring.specs.Barring.{callDue};
 use numbers::refusal::Refusal;
 use numbers::ruling::Ruling;
 use numbers::units::Ppb;
@@ -23,37 +22,10 @@ use unit_core::Core;
 use unit_core::Moved;
 use unit_core::calls::Answer;
 
-// What the exchange says, as far as the unit is concerned.
-pub enum Meaning {
-    Goes,
-    Faults, // the third HUGE in a row
-    Wipes,
-    Steers(Accepted),
-}
-
-fn means(said: Said) -> Meaning
-    ensures { λ r. ⌜ r ≡ meaningOf said ⌝ }
-{
-    match said {
-        Said::Held => Meaning::Goes,
-        Said::Paired => Meaning::Goes,
-        Said::Asked(_) => Meaning::Goes,
-        Said::Stamped => Meaning::Goes,
-        Said::Back => Meaning::Wipes,
-        Said::Neg => Meaning::Goes,
-        Said::Long => Meaning::Goes,
-        Said::Huge => Meaning::Goes,
-        Said::HugeFaulty => Meaning::Faults,
-        Said::Path => Meaning::Goes,
-        Said::PathWiped => Meaning::Wipes,
-        Said::Step(_) => Meaning::Wipes,
-        Said::Measured(found) => Meaning::Steers(found),
-    }
-}
-
-// 5, 9, 18, 10 and 16 of any call of the exchange, in their order: those that are asked before the exchange itself.
-fn barred(core: Core, now: u64, field: bool, domain: bool, master: bool) -> Ruling
-    ensures { λ r. ⌜ r ≡ firstOf (ofExchange field (ltb now (core .now)) (core .domain .faulty) domain master false false false) ⌝ }
+// 5, 9 and 18 of any call of the exchange, in their order. What else bars a message stands in hearing, and what else bars a call of the unit's own in
+// asking.
+fn barred(core: Core, now: u64, field: bool) -> Ruling
+    ensures { λ r. ⌜ r ≡ firstOf (ofExchange (callDue (staysOf core) now field)) ⌝ }
 {
     if field {
         return Ruling::Barred(Refusal::Field);
@@ -63,12 +35,6 @@ fn barred(core: Core, now: u64, field: bool, domain: bool, master: bool) -> Ruli
     }
     if core.domain.faulty {
         return Ruling::Barred(Refusal::Faulty);
-    }
-    if domain {
-        return Ruling::Barred(Refusal::Domain);
-    }
-    if master {
-        return Ruling::Barred(Refusal::NotMaster);
     }
     Ruling::Clear
 }
@@ -118,6 +84,22 @@ fn steer(
     go(core, steered, now, next, said)
 }
 
+// By what the answer does, and not answer by answer.
+fn follow(core: Core, servo: Servo, now: u64, next: Exchange, said: Said) -> Moved
+    ensures { λ r. ⌜ r ≡ movedBy core servo (bySaid (core .settings) (withNow now (staysOf core)) (progressOf core servo) next said) ⌝ }
+{
+    if said.wipes() {
+        return core.wipe(now, Answer::Exchange(said, Ppb(0)));
+    }
+    if said.faults() {
+        return fault(core, servo, now, next, said);
+    }
+    if said.steers() {
+        return steer(core, servo, now, next, said, said.found());
+    }
+    go(core, servo, now, next, said)
+}
+
 // What the exchange's answer makes of the unit.
 fn exchanged(core: Core, servo: Servo, now: u64, answered: Answered) -> Moved
     ensures { λ r. ⌜ r ≡ movedBy core servo (byAnswer (core .settings) (withNow now (staysOf core)) (progressOf core servo) (answered .answer) (answered .exchange)) ⌝ }
@@ -126,11 +108,6 @@ fn exchanged(core: Core, servo: Servo, now: u64, answered: Answered) -> Moved
     let answer = answered.answer;
     match answer {
         rules_exchange::Answer::Refused(number) => core.refuse(servo, number),
-        rules_exchange::Answer::Says(said) => match means(said) {
-            Meaning::Goes => go(core, servo, now, next, said),
-            Meaning::Faults => fault(core, servo, now, next, said),
-            Meaning::Wipes => core.wipe(now, Answer::Exchange(said, Ppb(0))),
-            Meaning::Steers(found) => steer(core, servo, now, next, said, found),
-        },
+        rules_exchange::Answer::Says(said) => follow(core, servo, now, next, said),
     }
 }

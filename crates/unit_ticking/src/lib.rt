@@ -7,7 +7,6 @@ ghost use Rattle.unit_ticking.specs.Ticking.{ticks, lineBy, tickedBy};
 ghost use Rattle.unit_ticking.specs.Inner.{pulses};
 use rules_servo::Servo;
 use rules_watch::Drift;
-use rules_watch::Pulse;
 use rules_watch::Watch;
 use unit_core::Core;
 use unit_core::Moved;
@@ -25,13 +24,13 @@ fn pulsed(core: Core, servo: Servo, answer: rules_watch::Answer) -> Moved
 {
     match answer {
         rules_watch::Answer::Refused(number) => core.refuse(servo, number),
-        rules_watch::Answer::Says(pulse) => match pulse {
-            Pulse::Valid => core.keep(servo, Answer::Watch(Pulse::Valid)),
-            Pulse::Invalid => core.keep(servo, Answer::Watch(Pulse::Invalid)),
-            Pulse::Back => core.wipe(core.now, Answer::Watch(Pulse::Back)),
-            Pulse::Range => core.wipe(core.now, Answer::Watch(Pulse::Range)),
-            Pulse::Jump => core.wipe(core.now, Answer::Watch(Pulse::Jump)),
-        },
+        rules_watch::Answer::Says(pulse) => {
+            if pulse.wipes() {
+                core.wipe(core.now, Answer::Watch(pulse))
+            } else {
+                core.keep(servo, Answer::Watch(pulse))
+            }
+        }
     }
 }
 

@@ -18,15 +18,7 @@ returns-3 c = simp (c .before .before .before .if1 .left, le-ltb _ _ (c .before 
 
 returns-4 : tie.Need-returns-4
 unfolding firstOf
-returns-4 c = simp (c .before .before .before .before .if1 .left, le-ltb _ _ (c .before .before .if2 .left), c .before .if3 .left, c .if4 .taken)
-
-returns-5 : tie.Need-returns-5
-unfolding firstOf
-returns-5 c = simp (c .before .before .before .before .before .if1 .left, le-ltb _ _ (c .before .before .before .if2 .left), c .before .before .if3 .left, c .before .if4 .left, c .if5 .taken)
-
-returns-6 : tie.Need-returns-6
-unfolding firstOf
-returns-6 c = simp (c .before .before .before .before .before .if1 .left, le-ltb _ _ (c .before .before .before .if2 .left), c .before .before .if3 .left, c .before .if4 .left, c .if5 .left)
+returns-4 c = simp (c .before .before .before .if1 .left, le-ltb _ _ (c .before .if2 .left), c .if3 .left)
 
 pub barred-spec : {M : Type 1} → statement M
-barred-spec = tie.close (tie.spec returns returns-2 returns-3 returns-4 returns-5 returns-6)
+barred-spec = tie.close (tie.spec returns returns-2 returns-3 returns-4)

@@ -19,8 +19,8 @@ enum-told c = search needs
 interval-requires : tie.Need-interval-requires
 interval-requires c κs = search needs
 
-seat-requires : tie.Need-seat-requires
-seat-requires c κs = search needs
+settle-requires : tie.Need-settle-requires
+settle-requires c κs = search needs
 
 returns : tie.Need-returns
 unfolding admittedOf
@@ -30,7 +30,7 @@ returns-2 : tie.Need-returns-2
 unfolding admittedOf seatedOf
 returns-2 c =
     rw (two-parts, sym (c .before .before .before .before .barred .ensures) ∙ c .before .before .enum-told .given .1)
-    (rw (c .before .interval .ensures) at (c .seat .ensures))
+    (rw (c .before .interval .ensures) at (c .settle .ensures))
 
 pub admit-spec : {M : Type 1} → statement M
 admit-spec =
@@ -40,6 +40,6 @@ admit-spec =
     enum-known-refusal
     enum-told
     interval-requires
-    seat-requires
+    settle-requires
     returns
     returns-2)

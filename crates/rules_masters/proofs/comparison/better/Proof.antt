@@ -1,7 +1,7 @@
 -- rules_masters::comparison::better meets its contract.
 use borrow.Author.Needs.{needs}
 use borrow.Author.Tests.{eq-eqb, ne-eqb}
-use Rattle.rules_masters.specs.Comparison.{betterOf}
+use Rattle.rules_masters.specs.Inner.{beatsOf}
 use Rattle.rules_masters.proofs.comparison.better.Statement.{statement}
 use Rattle.rules_masters.proofs.comparison.better.Tie as tie
 
@@ -9,14 +9,14 @@ nearer-requires : tie.Need-nearer-requires
 nearer-requires c κs = search needs
 
 returns : tie.Need-returns
-unfolding betterOf
+unfolding beatsOf
 returns c = rw (eq-eqb _ _ (c .before .if1 .taken)) (c .nearer .ensures)
 
 finer-requires : tie.Need-finer-requires
 finer-requires c κs = search needs
 
 returns-2 : tie.Need-returns-2
-unfolding betterOf
+unfolding beatsOf
 returns-2 c = rw (ne-eqb _ _ (c .before .if1 .left)) (c .finer .ensures)
 
 pub better-spec : {M : Type 1} → statement M

@@ -3,7 +3,7 @@ use mathlib.Core.Path.{sym, _∙_}
 use Rattle.rules_exchange.proofs.Told.{told-requested}
 use Rattle.rules_exchange.specs.Events.{tellsOf, stampTaken}
 use Rattle.rules_exchange.specs.Table.{rowBy}
-use Rattle.unit_measuring.specs.Measuring.{meaningOf}
+use Rattle.unit_measuring.specs.Measuring.{bySaid}
 use Rattle.unit_measuring.specs.Asking.{requests}
 use borrow.Author.Needs.{needs}
 use Rattle.unit_measuring.proofs.asking.request.Statement.{statement}
@@ -41,7 +41,7 @@ unfolding requests
 returns c = rw (sym (c .before .before .before .before .request-barred .ensures) ∙ c .before .before .number .given .1) (c .refuse .ensures)
 
 returns-2 : tie.Need-returns-2
-unfolding requests tellsOf rowBy stampTaken meaningOf
+unfolding requests tellsOf rowBy stampTaken bySaid
 returns-2 c = rw (sym (c .before .before .before .before .before .before .before .request-barred .ensures) ∙ c .before .before .before .before .before .enum-told .given .1) (rw (c .before .before .request .ensures, told-requested (c .before .before .before .before .before .before .before .before .args .core .domain .run .exchange) (c .before .before .before .before .before .before .before .before .args .core .domain .sequence)) at (c .exchanged .ensures))
 
 pub request-spec : {M : Type 1} → statement M

@@ -1,11 +1,10 @@
 -- `sent` meets its contract.
-use mathlib.Core.Path.{sym, _∙_}
-use mathlib.Core.Bool.{false, not}
-use lib.Dec.{ltb}
+use mathlib.Core.Path.{refl, sym, _∙_}
 use Rattle.rules_exchange.specs.Table.{sent}
 use Rattle.rules_exchange.specs.Events.{fieldOf}
 use Rattle.unit_core.specs.Effects.{staysOf, progressOf, withNow}
 use Rattle.unit_measuring.specs.Asking.{sends}
+use Rattle.unit_measuring.specs.Barring.{ownDue}
 use Rattle.unit_measuring.proofs.Barring.{unless-told}
 use borrow.Author.Needs.{needs}
 use Rattle.unit_measuring.proofs.asking.sent.Statement.{statement}
@@ -14,8 +13,8 @@ use Rattle.unit_measuring.proofs.asking.sent.Tie as tie
 field-requires : tie.Need-field-requires
 field-requires c κs = search needs
 
-barred-requires : tie.Need-barred-requires
-barred-requires c κs = search needs
+own-barred-requires : tie.Need-own-barred-requires
+own-barred-requires c κs = search needs
 
 enum-known-number : tie.Need-enum-known-number
 enum-known-number c = search needs
@@ -34,18 +33,18 @@ exchanged-requires c κs = search needs
 
 returns : tie.Need-returns
 unfolding sends
-returns c = let s = c .before .before .before .before .before .before .before .args in rw (unless-told (s .core .settings) (withNow (s .now) (staysOf (s .core))) (progressOf (s .core) (s .servo)) (s .core .domain .run .exchange) (sent (s .sequence) (s .t3)) (fieldOf (s .t3)) (ltb (s .now) (s .core .now)) (s .core .domain .faulty) false (not (s .core .domain .chosen .some))) (rw (sym (rw (c .before .before .before .before .before .before .field .ensures) at (c .before .before .before .before .barred .ensures)) ∙ c .before .before .number .given .1) (c .refuse .ensures))
+returns c = let s = c .before .before .before .before .before .before .args in rw (unless-told (s .core .settings) (withNow (s .now) (staysOf (s .core))) (progressOf (s .core) (s .servo)) (s .core .domain .run .exchange) (sent (s .sequence) (s .t3)) (ownDue (staysOf (s .core)) (s .now) (fieldOf (s .t3))) refl refl refl) (rw (sym (rw (c .before .before .before .before .before .field .ensures) at (c .before .before .before .before .own-barred .ensures)) ∙ c .before .before .number .given .1) (c .refuse .ensures))
 
 returns-2 : tie.Need-returns-2
 unfolding sends
-returns-2 c = let s = c .before .before .before .before .before .before .before .before .args in rw (unless-told (s .core .settings) (withNow (s .now) (staysOf (s .core))) (progressOf (s .core) (s .servo)) (s .core .domain .run .exchange) (sent (s .sequence) (s .t3)) (fieldOf (s .t3)) (ltb (s .now) (s .core .now)) (s .core .domain .faulty) false (not (s .core .domain .chosen .some))) (rw (sym (rw (c .before .before .before .before .before .before .before .field .ensures) at (c .before .before .before .before .before .barred .ensures)) ∙ c .before .before .before .enum-told .given .1) (rw (c .before .sent .ensures) at (c .exchanged .ensures)))
+returns-2 c = let s = c .before .before .before .before .before .before .before .args in rw (unless-told (s .core .settings) (withNow (s .now) (staysOf (s .core))) (progressOf (s .core) (s .servo)) (s .core .domain .run .exchange) (sent (s .sequence) (s .t3)) (ownDue (staysOf (s .core)) (s .now) (fieldOf (s .t3))) refl refl refl) (rw (sym (rw (c .before .before .before .before .before .before .field .ensures) at (c .before .before .before .before .before .own-barred .ensures)) ∙ c .before .before .before .enum-told .given .1) (rw (c .before .sent .ensures) at (c .exchanged .ensures)))
 
 pub sent-spec : {M : Type 1} → statement M
 sent-spec =
     tie.close
     (tie.spec
     field-requires
-    barred-requires
+    own-barred-requires
     enum-known-number
     refuse-requires
     enum-told

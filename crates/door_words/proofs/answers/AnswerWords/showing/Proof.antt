@@ -12,8 +12,12 @@ port-code-requires c κs = search needs
 servo-code-requires : tie.Need-servo-code-requires
 servo-code-requires c κs = search needs
 
+of-requires : tie.Need-of-requires
+of-requires c κs = search needs
+
 returns : tie.Need-returns
-returns c = rw (c .servo-code .ensures, c .before .port-code .ensures, c .before .before .plain .ensures)
+returns c = rw (c .of .ensures, c .before .servo-code .ensures, c .before .before .port-code .ensures, c .before .before .before .plain .ensures)
 
 pub showing-spec : {M : Type 1} → statement M
-showing-spec = tie.close (tie.spec plain-requires port-code-requires servo-code-requires returns)
+showing-spec =
+    tie.close (tie.spec plain-requires port-code-requires servo-code-requires of-requires returns)

@@ -1,0 +1,3 @@
+-- What the door promises: the parts after each call, and the main loop over them.
+pub mod Lending
+pub mod Loop

@@ -143,10 +143,14 @@ pub extern "C" fn sinezhab_receive(
     unit.halves = q.halves;
     unit.delays = q.delays;
     let v = *servo;
-    let n = measuring::steer(v, s, q);
-    *servo = n;
-    *answer = measuring::say(q, n);
+    let found = q.found;
+    let steers = q.steers;
     let wipes = q.wipes;
+    let n = measuring::steer(v, s, found, steers, wipes);
+    *servo = n;
+    let code = q.code;
+    let asked = q.sequence;
+    *answer = measuring::say(code, asked, found, steers, n);
     if wipes {
         watch.head = rules_watch::empty(&mut watch.references, &mut watch.ys, &mut watch.marks);
         return;
@@ -246,10 +250,14 @@ pub extern "C" fn sinezhab_sent(
     unit.halves = q.halves;
     unit.delays = q.delays;
     let v = *servo;
-    let n = measuring::steer(v, s, q);
-    *servo = n;
-    *answer = measuring::say(q, n);
+    let found = q.found;
+    let steers = q.steers;
     let wipes = q.wipes;
+    let n = measuring::steer(v, s, found, steers, wipes);
+    *servo = n;
+    let code = q.code;
+    let asked = q.sequence;
+    *answer = measuring::say(code, asked, found, steers, n);
     if wipes {
         watch.head = rules_watch::empty(&mut watch.references, &mut watch.ys, &mut watch.marks);
         return;

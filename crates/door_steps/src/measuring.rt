@@ -217,26 +217,24 @@ pub fn untold(q: Told) -> AnswerWords
 }
 
 // A wipe restores the servo, an accepted offset steers it; else it is as it was.
-pub fn steer(v: Servo, s: SettingsWords, q: Told) -> Servo
-    ensures { λ r. ⌜ r ≡ servoAfter s v (q .found) (q .steers) (q .wipes) ⌝ }
+pub fn steer(v: Servo, s: SettingsWords, found: Accepted, steers: bool, wipes: bool) -> Servo
+    ensures { λ r. ⌜ r ≡ servoAfter s v found steers wipes ⌝ }
 {
-    if q.wipes {
+    if wipes {
         return Servo::fresh(s.kp, s.ki);
     }
-    if q.steers {
-        let found = q.found;
+    if steers {
         return v.step(found.offset, s.sync, s.limit);
     }
     v
 }
 
 // The answer: a measurement comes with the output that is set after it.
-pub fn say(q: Told, v: Servo) -> AnswerWords
-    ensures { λ r. ⌜ r ≡ outputSaid (q .code) (q .sequence) (q .found) (q .steers) v ⌝ }
+pub fn say(code: u8, sequence: u16, found: Accepted, steers: bool, v: Servo) -> AnswerWords
+    ensures { λ r. ⌜ r ≡ outputSaid code sequence found steers v ⌝ }
 {
-    let found = q.found;
-    if q.steers {
-        return AnswerWords::spoken(q.code, q.sequence, found, v.output);
+    if steers {
+        return AnswerWords::spoken(code, sequence, found, v.output);
     }
-    AnswerWords::spoken(q.code, q.sequence, found, Ppb(0))
+    AnswerWords::spoken(code, sequence, found, Ppb(0))
 }

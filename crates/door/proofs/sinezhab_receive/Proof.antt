@@ -104,12 +104,12 @@ use Rattle.door_records.proofs.exchange.DelaysWords.Laws as MDelaysWords′
 use Rattle.door_steps.specs.declared.measuring.Told as STold
 use Rattle.door_steps.proofs.measuring.Told as MTold
 use Rattle.door_steps.proofs.measuring.Told.Laws as MTold′
-use Rattle.rules_watch.specs.declared.window.Head as SHead
-use Rattle.rules_watch.proofs.window.Head as MHead
-use Rattle.rules_watch.proofs.window.Head.Laws as MHead′
 use Rattle.rules_exchange.specs.declared.Accepted as SAccepted
 use Rattle.rules_exchange.proofs.Accepted as MAccepted
 use Rattle.rules_exchange.proofs.Accepted.Laws as MAccepted′
+use Rattle.rules_watch.specs.declared.window.Head as SHead
+use Rattle.rules_watch.proofs.window.Head as MHead
+use Rattle.rules_watch.proofs.window.Head.Laws as MHead′
 use Rattle.door_steps.proofs.receiving.receive as f-receive
 use Rattle.door_steps.proofs.receiving.receive.Symbol as s-receive
 use Rattle.door_steps.proofs.receiving.receive.Symbol.{name as #receive}
@@ -261,6 +261,28 @@ lone-usize x vs g = tells-usize x vs g ∙ ap (λ (us : List Val). only us ∷ [
 one-usize : (x : ℕ) (vs : List Val) → Is R-usize x vs → Is R-usize x (only vs ∷ [])
 one-usize x vs g = subst (Is R-usize x) (lone-usize x vs g) g
 
+abbrev R-bool : RattleType
+R-bool = bool
+
+abbrev v-bool : Bool → List Val
+v-bool = bool-vals
+
+tells-bool : Tells R-bool (Is R-bool) v-bool
+tells-bool = bool-tells
+
+lawful-bool : {M : Type 1} (𝓤 : URA M) (H : Heap 𝓤) (A : Atoms 𝓤) (W : Given 𝓤 H A) → Lawful 𝓤 H A R-bool
+lawful-bool 𝓤 H A W = bool-lawful 𝓤 H A W
+
+makes-bool : {M : Type 1} (𝓤 : URA M) (H : Heap 𝓤) (A : Atoms 𝓤) (W : Given 𝓤 H A) → Makes 𝓤 H A R-bool (Is R-bool)
+makes-bool 𝓤 H A W = bool-makes 𝓤 H A W
+
+-- it is one machine value
+lone-bool : (x : Bool) (vs : List Val) → Is R-bool x vs → vs ≡ only vs ∷ []
+lone-bool x vs g = tells-bool x vs g ∙ ap (λ (us : List Val). only us ∷ []) (sym (tells-bool x vs g))
+
+one-bool : (x : Bool) (vs : List Val) → Is R-bool x vs → Is R-bool x (only vs ∷ [])
+one-bool x vs g = subst (Is R-bool x) (lone-bool x vs g) g
+
 abbrev R-u8 : RattleType
 R-u8 = u8
 
@@ -282,6 +304,28 @@ lone-u8 x vs g = tells-u8 x vs g ∙ ap (λ (us : List Val). only us ∷ []) (sy
 
 one-u8 : (x : ℕ) (vs : List Val) → Is R-u8 x vs → Is R-u8 x (only vs ∷ [])
 one-u8 x vs g = subst (Is R-u8 x) (lone-u8 x vs g) g
+
+abbrev R-u16 : RattleType
+R-u16 = u16
+
+abbrev v-u16 : ℕ → List Val
+v-u16 = uint-vals w16
+
+tells-u16 : Tells R-u16 (Is R-u16) v-u16
+tells-u16 = uint-tells w16
+
+lawful-u16 : {M : Type 1} (𝓤 : URA M) (H : Heap 𝓤) (A : Atoms 𝓤) (W : Given 𝓤 H A) → Lawful 𝓤 H A R-u16
+lawful-u16 𝓤 H A W = uint-lawful 𝓤 H A W w16
+
+makes-u16 : {M : Type 1} (𝓤 : URA M) (H : Heap 𝓤) (A : Atoms 𝓤) (W : Given 𝓤 H A) → Makes 𝓤 H A R-u16 (Is R-u16)
+makes-u16 𝓤 H A W = uint-makes 𝓤 H A W w16
+
+-- it is one machine value
+lone-u16 : (x : ℕ) (vs : List Val) → Is R-u16 x vs → vs ≡ only vs ∷ []
+lone-u16 x vs g = tells-u16 x vs g ∙ ap (λ (us : List Val). only us ∷ []) (sym (tells-u16 x vs g))
+
+one-u16 : (x : ℕ) (vs : List Val) → Is R-u16 x vs → Is R-u16 x (only vs ∷ [])
+one-u16 x vs g = subst (Is R-u16 x) (lone-u16 x vs g) g
 
 abbrev R-i64 : RattleType
 R-i64 = i64
@@ -326,50 +370,6 @@ lone-i32 x vs g = tells-i32 x vs g ∙ ap (λ (us : List Val). only us ∷ []) (
 
 one-i32 : (x : ℤ) (vs : List Val) → Is R-i32 x vs → Is R-i32 x (only vs ∷ [])
 one-i32 x vs g = subst (Is R-i32 x) (lone-i32 x vs g) g
-
-abbrev R-bool : RattleType
-R-bool = bool
-
-abbrev v-bool : Bool → List Val
-v-bool = bool-vals
-
-tells-bool : Tells R-bool (Is R-bool) v-bool
-tells-bool = bool-tells
-
-lawful-bool : {M : Type 1} (𝓤 : URA M) (H : Heap 𝓤) (A : Atoms 𝓤) (W : Given 𝓤 H A) → Lawful 𝓤 H A R-bool
-lawful-bool 𝓤 H A W = bool-lawful 𝓤 H A W
-
-makes-bool : {M : Type 1} (𝓤 : URA M) (H : Heap 𝓤) (A : Atoms 𝓤) (W : Given 𝓤 H A) → Makes 𝓤 H A R-bool (Is R-bool)
-makes-bool 𝓤 H A W = bool-makes 𝓤 H A W
-
--- it is one machine value
-lone-bool : (x : Bool) (vs : List Val) → Is R-bool x vs → vs ≡ only vs ∷ []
-lone-bool x vs g = tells-bool x vs g ∙ ap (λ (us : List Val). only us ∷ []) (sym (tells-bool x vs g))
-
-one-bool : (x : Bool) (vs : List Val) → Is R-bool x vs → Is R-bool x (only vs ∷ [])
-one-bool x vs g = subst (Is R-bool x) (lone-bool x vs g) g
-
-abbrev R-u16 : RattleType
-R-u16 = u16
-
-abbrev v-u16 : ℕ → List Val
-v-u16 = uint-vals w16
-
-tells-u16 : Tells R-u16 (Is R-u16) v-u16
-tells-u16 = uint-tells w16
-
-lawful-u16 : {M : Type 1} (𝓤 : URA M) (H : Heap 𝓤) (A : Atoms 𝓤) (W : Given 𝓤 H A) → Lawful 𝓤 H A R-u16
-lawful-u16 𝓤 H A W = uint-lawful 𝓤 H A W w16
-
-makes-u16 : {M : Type 1} (𝓤 : URA M) (H : Heap 𝓤) (A : Atoms 𝓤) (W : Given 𝓤 H A) → Makes 𝓤 H A R-u16 (Is R-u16)
-makes-u16 𝓤 H A W = uint-makes 𝓤 H A W w16
-
--- it is one machine value
-lone-u16 : (x : ℕ) (vs : List Val) → Is R-u16 x vs → vs ≡ only vs ∷ []
-lone-u16 x vs g = tells-u16 x vs g ∙ ap (λ (us : List Val). only us ∷ []) (sym (tells-u16 x vs g))
-
-one-u16 : (x : ℕ) (vs : List Val) → Is R-u16 x vs → Is R-u16 x (only vs ∷ [])
-one-u16 x vs g = subst (Is R-u16 x) (lone-u16 x vs g) g
 
 abbrev R-UnitWords : RattleType
 R-UnitWords = MUnitWords.the-row
@@ -745,28 +745,6 @@ lone-Told x vs g = tells-Told x vs g ∙ ap (λ (us : List Val). only us ∷ [])
 one-Told : (x : STold.Told) (vs : List Val) → Is R-Told x vs → Is R-Told x (only vs ∷ [])
 one-Told x vs g = subst (Is R-Told x) (lone-Told x vs g) g
 
-abbrev R-Head : RattleType
-R-Head = MHead.the-row
-
-abbrev v-Head : SHead.Head → List Val
-v-Head = LL.vals MHead.the-type MHead′.the-laws
-
-tells-Head : Tells R-Head (Is R-Head) v-Head
-tells-Head = LL.tells MHead.the-type MHead′.the-laws
-
-lawful-Head : {M : Type 1} (𝓤 : URA M) (H : Heap 𝓤) (A : Atoms 𝓤) (W : Given 𝓤 H A) → Lawful 𝓤 H A R-Head
-lawful-Head 𝓤 H A W = LL.lawful MHead.the-type MHead′.the-laws 𝓤 H A W
-
-makes-Head : {M : Type 1} (𝓤 : URA M) (H : Heap 𝓤) (A : Atoms 𝓤) (W : Given 𝓤 H A) → Makes 𝓤 H A R-Head (Is R-Head)
-makes-Head 𝓤 H A W = LL.makes MHead.the-type MHead′.the-plain 𝓤 H A
-
--- it is one machine value
-lone-Head : (x : SHead.Head) (vs : List Val) → Is R-Head x vs → vs ≡ only vs ∷ []
-lone-Head x vs g = tells-Head x vs g ∙ ap (λ (us : List Val). only us ∷ []) (sym (tells-Head x vs g))
-
-one-Head : (x : SHead.Head) (vs : List Val) → Is R-Head x vs → Is R-Head x (only vs ∷ [])
-one-Head x vs g = subst (Is R-Head x) (lone-Head x vs g) g
-
 abbrev R-Accepted : RattleType
 R-Accepted = MAccepted.the-row
 
@@ -788,6 +766,28 @@ lone-Accepted x vs g = tells-Accepted x vs g ∙ ap (λ (us : List Val). only us
 
 one-Accepted : (x : SAccepted.Accepted) (vs : List Val) → Is R-Accepted x vs → Is R-Accepted x (only vs ∷ [])
 one-Accepted x vs g = subst (Is R-Accepted x) (lone-Accepted x vs g) g
+
+abbrev R-Head : RattleType
+R-Head = MHead.the-row
+
+abbrev v-Head : SHead.Head → List Val
+v-Head = LL.vals MHead.the-type MHead′.the-laws
+
+tells-Head : Tells R-Head (Is R-Head) v-Head
+tells-Head = LL.tells MHead.the-type MHead′.the-laws
+
+lawful-Head : {M : Type 1} (𝓤 : URA M) (H : Heap 𝓤) (A : Atoms 𝓤) (W : Given 𝓤 H A) → Lawful 𝓤 H A R-Head
+lawful-Head 𝓤 H A W = LL.lawful MHead.the-type MHead′.the-laws 𝓤 H A W
+
+makes-Head : {M : Type 1} (𝓤 : URA M) (H : Heap 𝓤) (A : Atoms 𝓤) (W : Given 𝓤 H A) → Makes 𝓤 H A R-Head (Is R-Head)
+makes-Head 𝓤 H A W = LL.makes MHead.the-type MHead′.the-plain 𝓤 H A
+
+-- it is one machine value
+lone-Head : (x : SHead.Head) (vs : List Val) → Is R-Head x vs → vs ≡ only vs ∷ []
+lone-Head x vs g = tells-Head x vs g ∙ ap (λ (us : List Val). only us ∷ []) (sym (tells-Head x vs g))
+
+one-Head : (x : SHead.Head) (vs : List Val) → Is R-Head x vs → Is R-Head x (only vs ∷ [])
+one-Head x vs g = subst (Is R-Head x) (lone-Head x vs g) g
 
 abbrev R-i64x128 : RattleType
 R-i64x128 = Array R-i64 128
@@ -1454,14 +1454,14 @@ module _ {M : Type 1} (𝓤 : URA M) (H : Heap 𝓤) (A : Atoms 𝓤) (at-mem : 
   abbrev C-steer : Contract 𝓤
   C-steer = tripleOf 𝓤 H A f-steer.signature (f-steer.spec 𝓤 H A at-mem run)
 
-  ensures-steer : (x0 : SServo.Servo) (x1 : SSettingsWords.SettingsWords) (x2 : STold.Told) (p : SServo.Servo) → ent 𝓤 (ensured 𝓤 H A f-steer.ended (f-steer.clauses 𝓤 H A at-mem run) tt (x0, (x1, (x2, tt))) tt p) (fact 𝓤 (p ≡ servoAfter x1 x0 (x2 .found) (x2 .steers) (x2 .wipes)))
-  ensures-steer x0 x1 x2 p = exE 𝓤 _ (λ ws. snd∗ 𝓤 (sem 𝓤 H A (lasts f-steer.ended tt (x0, (x1, (x2, tt))) ws)) (fact 𝓤 (p ≡ servoAfter x1 x0 (x2 .found) (x2 .steers) (x2 .wipes))))
+  ensures-steer : (x0 : SServo.Servo) (x1 : SSettingsWords.SettingsWords) (x2 : SAccepted.Accepted) (x3 : Bool) (x4 : Bool) (p : SServo.Servo) → ent 𝓤 (ensured 𝓤 H A f-steer.ended (f-steer.clauses 𝓤 H A at-mem run) tt (x0, (x1, (x2, (x3, (x4, tt))))) tt p) (fact 𝓤 (p ≡ servoAfter x1 x0 x2 x3 x4))
+  ensures-steer x0 x1 x2 x3 x4 p = exE 𝓤 _ (λ ws. snd∗ 𝓤 (sem 𝓤 H A (lasts f-steer.ended tt (x0, (x1, (x2, (x3, (x4, tt))))) ws)) (fact 𝓤 (p ≡ servoAfter x1 x0 x2 x3 x4)))
 
   abbrev C-say : Contract 𝓤
   C-say = tripleOf 𝓤 H A f-say.signature (f-say.spec 𝓤 H A at-mem run)
 
-  ensures-say : (x0 : STold.Told) (x1 : SServo.Servo) (p : SAnswerWords.AnswerWords) → ent 𝓤 (ensured 𝓤 H A f-say.ended (f-say.clauses 𝓤 H A at-mem run) tt (x0, (x1, tt)) tt p) (fact 𝓤 (p ≡ outputSaid (x0 .code) (x0 .sequence) (x0 .found) (x0 .steers) x1))
-  ensures-say x0 x1 p = exE 𝓤 _ (λ ws. snd∗ 𝓤 (sem 𝓤 H A (lasts f-say.ended tt (x0, (x1, tt)) ws)) (fact 𝓤 (p ≡ outputSaid (x0 .code) (x0 .sequence) (x0 .found) (x0 .steers) x1)))
+  ensures-say : (x0 : ℕ) (x1 : ℕ) (x2 : SAccepted.Accepted) (x3 : Bool) (x4 : SServo.Servo) (p : SAnswerWords.AnswerWords) → ent 𝓤 (ensured 𝓤 H A f-say.ended (f-say.clauses 𝓤 H A at-mem run) tt (x0, (x1, (x2, (x3, (x4, tt))))) tt p) (fact 𝓤 (p ≡ outputSaid x0 x1 x2 x3 x4))
+  ensures-say x0 x1 x2 x3 x4 p = exE 𝓤 _ (λ ws. snd∗ 𝓤 (sem 𝓤 H A (lasts f-say.ended tt (x0, (x1, (x2, (x3, (x4, tt))))) ws)) (fact 𝓤 (p ≡ outputSaid x0 x1 x2 x3 x4)))
 
 module _ {M : Type 1} (𝓤 : URA M) (H : Heap 𝓤) (A : Atoms 𝓤) (W : Given 𝓤 H A) (at-mem : Memory → SProp 𝓤) (run : Routine → Fun 𝓤) (κ1 : Lft) (q1 : Share) (b1 o1 : ℕ) (γ1 : GName) (h1 : SUnitWords.UnitWords) (κ2 : Lft) (q2 : Share) (b2 o2 : ℕ) (γ2 : GName) (h2 : SServo.Servo) (κ3 : Lft) (q3 : Share) (b3 o3 : ℕ) (γ3 : GName) (h3 : (List SMasterWords.MasterWords)) (κ4 : Lft) (q4 : Share) (b4 o4 : ℕ) (γ4 : GName) (h4 : SWatch.Watch) (κ5 : Lft) (q5 : Share) (b5 o5 : ℕ) (γ5 : GName) (h5 : (List ℕ)) (h6 : ℕ) (u6 : Val) (g6 : Is R-u64 h6 (u6 ∷ [])) (h7 : SStamp.Stamp) (u7 : Val) (g7 : Is R-Stamp h7 (u7 ∷ [])) (κ8 : Lft) (q8 : Share) (b8 o8 : ℕ) (γ8 : GName) (h8 : SAnswerWords.AnswerWords) (room3 : Room R-MasterWords (length h3)) (room5 : Room R-u8 (length h5)) where
   abbrev to-receive : (ν0 : ℕ) (δ0 : GName) (c0 d0 : ℕ) (y0 : List ℕ) → C-receive 𝓤 H A at-mem run .Ghost
@@ -1542,17 +1542,17 @@ module _ {M : Type 1} (𝓤 : URA M) (H : Heap 𝓤) (A : Atoms 𝓤) (W : Given
   goes-untold : (x0 : STold.Told) (u0 : Val) (g0 : Is R-Told x0 (u0 ∷ [])) → ent 𝓤 (emp 𝓤) (C-untold 𝓤 H A at-mem run .pre (to-untold x0 u0))
   goes-untold x0 u0 g0 = qed W [] ∵ nothing ! $ owned ! R-Told (Is R-Told) (makes-Told 𝓤 H A W) x0 _ g0 $ fjoin ! $ nothing ! $ join ! $ frame ! $ done !
 
-  abbrev to-steer : (x0 : SServo.Servo) (u0 : Val) (x1 : SSettingsWords.SettingsWords) (u1 : Val) (x2 : STold.Told) (u2 : Val) → C-steer 𝓤 H A at-mem run .Ghost
-  to-steer x0 u0 x1 u1 x2 u2 = ((tt, tt, tt, (x0, (x1, (x2, tt))), (u0 ∷ [], (u1 ∷ [], (u2 ∷ [], tt)))), tt)
+  abbrev to-steer : (x0 : SServo.Servo) (u0 : Val) (x1 : SSettingsWords.SettingsWords) (u1 : Val) (x2 : SAccepted.Accepted) (u2 : Val) (x3 : Bool) (u3 : Val) (x4 : Bool) (u4 : Val) → C-steer 𝓤 H A at-mem run .Ghost
+  to-steer x0 u0 x1 u1 x2 u2 x3 u3 x4 u4 = ((tt, tt, tt, (x0, (x1, (x2, (x3, (x4, tt))))), (u0 ∷ [], (u1 ∷ [], (u2 ∷ [], (u3 ∷ [], (u4 ∷ [], tt)))))), tt)
 
-  goes-steer : (x0 : SServo.Servo) (u0 : Val) (g0 : Is R-Servo x0 (u0 ∷ [])) (x1 : SSettingsWords.SettingsWords) (u1 : Val) (g1 : Is R-SettingsWords x1 (u1 ∷ [])) (x2 : STold.Told) (u2 : Val) (g2 : Is R-Told x2 (u2 ∷ [])) → ent 𝓤 (emp 𝓤) (C-steer 𝓤 H A at-mem run .pre (to-steer x0 u0 x1 u1 x2 u2))
-  goes-steer x0 u0 g0 x1 u1 g1 x2 u2 g2 = qed W [] ∵ nothing ! $ owned ! R-Told (Is R-Told) (makes-Told 𝓤 H A W) x2 _ g2 $ fjoin ! $ owned ! R-SettingsWords (Is R-SettingsWords) (makes-SettingsWords 𝓤 H A W) x1 _ g1 $ fjoin ! $ owned ! R-Servo (Is R-Servo) (makes-Servo 𝓤 H A W) x0 _ g0 $ fjoin ! $ nothing ! $ join ! $ frame ! $ done !
+  goes-steer : (x0 : SServo.Servo) (u0 : Val) (g0 : Is R-Servo x0 (u0 ∷ [])) (x1 : SSettingsWords.SettingsWords) (u1 : Val) (g1 : Is R-SettingsWords x1 (u1 ∷ [])) (x2 : SAccepted.Accepted) (u2 : Val) (g2 : Is R-Accepted x2 (u2 ∷ [])) (x3 : Bool) (u3 : Val) (g3 : Is R-bool x3 (u3 ∷ [])) (x4 : Bool) (u4 : Val) (g4 : Is R-bool x4 (u4 ∷ [])) → ent 𝓤 (emp 𝓤) (C-steer 𝓤 H A at-mem run .pre (to-steer x0 u0 x1 u1 x2 u2 x3 u3 x4 u4))
+  goes-steer x0 u0 g0 x1 u1 g1 x2 u2 g2 x3 u3 g3 x4 u4 g4 = qed W [] ∵ nothing ! $ owned ! R-bool (Is R-bool) (makes-bool 𝓤 H A W) x4 _ g4 $ fjoin ! $ owned ! R-bool (Is R-bool) (makes-bool 𝓤 H A W) x3 _ g3 $ fjoin ! $ owned ! R-Accepted (Is R-Accepted) (makes-Accepted 𝓤 H A W) x2 _ g2 $ fjoin ! $ owned ! R-SettingsWords (Is R-SettingsWords) (makes-SettingsWords 𝓤 H A W) x1 _ g1 $ fjoin ! $ owned ! R-Servo (Is R-Servo) (makes-Servo 𝓤 H A W) x0 _ g0 $ fjoin ! $ nothing ! $ join ! $ frame ! $ done !
 
-  abbrev to-say : (x0 : STold.Told) (u0 : Val) (x1 : SServo.Servo) (u1 : Val) → C-say 𝓤 H A at-mem run .Ghost
-  to-say x0 u0 x1 u1 = ((tt, tt, tt, (x0, (x1, tt)), (u0 ∷ [], (u1 ∷ [], tt))), tt)
+  abbrev to-say : (x0 : ℕ) (u0 : Val) (x1 : ℕ) (u1 : Val) (x2 : SAccepted.Accepted) (u2 : Val) (x3 : Bool) (u3 : Val) (x4 : SServo.Servo) (u4 : Val) → C-say 𝓤 H A at-mem run .Ghost
+  to-say x0 u0 x1 u1 x2 u2 x3 u3 x4 u4 = ((tt, tt, tt, (x0, (x1, (x2, (x3, (x4, tt))))), (u0 ∷ [], (u1 ∷ [], (u2 ∷ [], (u3 ∷ [], (u4 ∷ [], tt)))))), tt)
 
-  goes-say : (x0 : STold.Told) (u0 : Val) (g0 : Is R-Told x0 (u0 ∷ [])) (x1 : SServo.Servo) (u1 : Val) (g1 : Is R-Servo x1 (u1 ∷ [])) → ent 𝓤 (emp 𝓤) (C-say 𝓤 H A at-mem run .pre (to-say x0 u0 x1 u1))
-  goes-say x0 u0 g0 x1 u1 g1 = qed W [] ∵ nothing ! $ owned ! R-Servo (Is R-Servo) (makes-Servo 𝓤 H A W) x1 _ g1 $ fjoin ! $ owned ! R-Told (Is R-Told) (makes-Told 𝓤 H A W) x0 _ g0 $ fjoin ! $ nothing ! $ join ! $ frame ! $ done !
+  goes-say : (x0 : ℕ) (u0 : Val) (g0 : Is R-u8 x0 (u0 ∷ [])) (x1 : ℕ) (u1 : Val) (g1 : Is R-u16 x1 (u1 ∷ [])) (x2 : SAccepted.Accepted) (u2 : Val) (g2 : Is R-Accepted x2 (u2 ∷ [])) (x3 : Bool) (u3 : Val) (g3 : Is R-bool x3 (u3 ∷ [])) (x4 : SServo.Servo) (u4 : Val) (g4 : Is R-Servo x4 (u4 ∷ [])) → ent 𝓤 (emp 𝓤) (C-say 𝓤 H A at-mem run .pre (to-say x0 u0 x1 u1 x2 u2 x3 u3 x4 u4))
+  goes-say x0 u0 g0 x1 u1 g1 x2 u2 g2 x3 u3 g3 x4 u4 g4 = qed W [] ∵ nothing ! $ owned ! R-Servo (Is R-Servo) (makes-Servo 𝓤 H A W) x4 _ g4 $ fjoin ! $ owned ! R-bool (Is R-bool) (makes-bool 𝓤 H A W) x3 _ g3 $ fjoin ! $ owned ! R-Accepted (Is R-Accepted) (makes-Accepted 𝓤 H A W) x2 _ g2 $ fjoin ! $ owned ! R-u16 (Is R-u16) (makes-u16 𝓤 H A W) x1 _ g1 $ fjoin ! $ owned ! R-u8 (Is R-u8) (makes-u8 𝓤 H A W) x0 _ g0 $ fjoin ! $ nothing ! $ join ! $ frame ! $ done !
 
   abbrev x : (RefT SUnitWords.UnitWords × (RefT SServo.Servo × (RefT (List SMasterWords.MasterWords) × (RefT SWatch.Watch × (RefT (List ℕ) × (ℕ × (SStamp.Stamp × (RefT SAnswerWords.AnswerWords × Unit {0}))))))))
   x = (record { ptr = (b1, o1); name = γ1; now = h1 }, (record { ptr = (b2, o2); name = γ2; now = h2 }, (record { ptr = (b3, o3); name = γ3; now = h3 }, (record { ptr = (b4, o4); name = γ4; now = h4 }, (record { ptr = (b5, o5); name = γ5; now = h5 }, (h6, (h7, (record { ptr = (b8, o8); name = γ8; now = h8 }, tt))))))))
@@ -1629,13 +1629,13 @@ module _ {M : Type 1} (𝓤 : URA M) (H : Heap 𝓤) (A : Atoms 𝓤) (W : Given
       nothing ! $ move ! (17 ∷ 0 ∷ []) $ join ! $ move ! (14 ∷ 0 ∷ []) $ join ! $ move ! (12 ∷ 0 ∷ []) $ join ! $ move ! (9 ∷ 0 ∷ []) $ join ! $ move ! (6 ∷ 0 ∷ []) $ join ! $ move ! (3 ∷ 0 ∷ []) $ join ! $ frame ! $ move ! (9 ∷ 10 ∷ []) $ feqI ! (List Val) ((vptr b8 o8) ∷ []) ((vptr b8 o8) ∷ []) refl $ fjoin3 ! $ move ! (0 ∷ 12 ∷ []) $ fjoin ! $ move ! (11 ∷ 0 ∷ []) $ fjoin ! $ move ! (10 ∷ 0 ∷ []) $ fjoin ! $ move ! (9 ∷ 0 ∷ []) $ fjoin ! $ move ! (7 ∷ 8 ∷ []) $ feqI ! (List Val) ((vptr b4 o4) ∷ []) ((vptr b4 o4) ∷ []) refl $ fjoin3 ! $ fjoin ! $ move ! (5 ∷ 6 ∷ []) $ fjoin ! $ pureI ! (at-slice R-MasterWords (x3 h3) ((sliceVal (b3, o3) (length h3)) ∷ [])) (tt, (tt, tt)) (ap (λ (m : ℕ). sliceVal (b3, o3) m ∷ []) (sym refl), subst (Room R-MasterWords) (sym refl) room3) $ fjoin ! $ fjoin ! $ move ! (3 ∷ 4 ∷ []) $ feqI ! (List Val) ((vptr b2 o2) ∷ []) ((vptr b2 o2) ∷ []) refl $ fjoin3 ! $ fjoin ! $ move ! (1 ∷ 2 ∷ []) $ feqI ! (List Val) ((vptr b1 o1) ∷ []) ((vptr b1 o1) ∷ []) refl $ fjoin3 ! $ fjoin ! $ frame ! $ feqI ! (List Val) (vunit ∷ []) (vunit ∷ []) refl $ done !
 
   module _ (C : Calls 𝓤 H) (Λ : Loops 𝓤 H) (fm : FmC 𝓤 H (W .laws) C) (known-receive : Triple 𝓤 (C #receive) (C-receive 𝓤 H A at-mem run)) (known-refused : Triple 𝓤 (C #refused) (C-refused 𝓤 H A at-mem run)) (known-untabled : Triple 𝓤 (C #untabled) (C-untabled 𝓤 H A at-mem run)) (known-span : Triple 𝓤 (C #span) (C-span 𝓤 H A at-mem run)) (known-look : Triple 𝓤 (C #look) (C-look 𝓤 H A at-mem run)) (known-seat-in : Triple 𝓤 (C #seat-in) (C-seat-in 𝓤 H A at-mem run)) (known-unseated : Triple 𝓤 (C #unseated) (C-unseated 𝓤 H A at-mem run)) (known-place : Triple 𝓤 (C #place) (C-place 𝓤 H A at-mem run)) (known-choose : Triple 𝓤 (C #choose) (C-choose 𝓤 H A at-mem run)) (known-clear : Triple 𝓤 (C #clear) (C-clear 𝓤 H A at-mem run)) (known-empty : Triple 𝓤 (C #empty) (C-empty 𝓤 H A at-mem run)) (known-hear : Triple 𝓤 (C #hear) (C-hear 𝓤 H A at-mem run)) (known-untold : Triple 𝓤 (C #untold) (C-untold 𝓤 H A at-mem run)) (known-steer : Triple 𝓤 (C #steer) (C-steer 𝓤 H A at-mem run)) (known-say : Triple 𝓤 (C #say) (C-say 𝓤 H A at-mem run)) where
-    module _ (l0 l1 l2 l3 l4 l5 l6 l7 l8 l9 l10 l11 l12 l13 l14 l15 l16 l17 l18 l19 l20 l21 l22 l23 l24 l25 l26 l27 l28 l29 l30 l31 l32 l33 l34 l35 l36 l37 l38 l39 l40 l41 l42 l43 l44 l45 l46 l47 l48 l49 l50 l51 l52 l53 l54 l55 l56 l57 l58 l59 l60 l61 : ℕ) where
+    module _ (l0 l1 l2 l3 l4 l5 l6 l7 l8 l9 l10 l11 l12 l13 l14 l15 l16 l17 l18 l19 l20 l21 l22 l23 l24 l25 l26 l27 l28 l29 l30 l31 l32 l33 l34 l35 l36 l37 l38 l39 l40 l41 l42 l43 l44 l45 l46 l47 l48 l49 l50 l51 l52 l53 l54 l55 l56 l57 l58 l59 l60 l61 l62 l63 l64 l65 : ℕ) where
       abbrev En : Env 𝓤 H
-      En = (tyUnit, l0) ∷ ((tyRef (named 0) mut (pointee (R-UnitWords .written))), l1) ∷ ((tyRef (named 1) mut (pointee (R-Servo .written))), l2) ∷ ((sliceTy (tyRef (named 2) mut (pointee (R-MasterWords .written)))), l3) ∷ ((tyRef (named 3) mut (pointee (R-Watch .written))), l4) ∷ ((sliceTy (tyRef (named 4) mut (tyInt w8))), l5) ∷ ((tyInt w64), l6) ∷ (MStamp′.mir, l7) ∷ ((tyRef (named 5) mut (pointee (R-AnswerWords .written))), l8) ∷ (MReceived′.mir, l9) ∷ (tyBool, l10) ∷ (MMessage′.mir, l11) ∷ (MSettingsWords′.mir, l12) ∷ (MStateWords′.mir, l13) ∷ (tyBool, l14) ∷ ((tyInt w32), l15) ∷ (MLooked′.mir, l16) ∷ (MLooked′.mir, l17) ∷ (MLooked′.mir, l18) ∷ (MLooked′.mir, l19) ∷ (MLooked′.mir, l20) ∷ (MSeat′.mir, l21) ∷ (tyBool, l22) ∷ ((tyInt w64), l23) ∷ (MMasterWords′.mir, l24) ∷ (MHeld′.mir, l25) ∷ (tyBool, l26) ∷ (MEmptied′.mir, l27) ∷ (MHalvesWords′.mir, l28) ∷ (MDelaysWords′.mir, l29) ∷ (MTold′.mir, l30) ∷ (tyBool, l31) ∷ (MServo′.mir, l32) ∷ (MServo′.mir, l33) ∷ (tyBool, l34) ∷ ((tyRef erased mut (tyInt w8)), l35) ∷ ((sliceTy (tyRef erased mut (tyInt w8))), l36) ∷ (tyBool, l37) ∷ (MAnswerWords′.mir, l38) ∷ ((tyInt w64), l39) ∷ (MAnswerWords′.mir, l40) ∷ (tyPtr, l41) ∷ (MMasterWords′.mir, l42) ∷ (tyPtr, l43) ∷ (tyPtr, l44) ∷ (tyPtr, l45) ∷ (tyPtr, l46) ∷ (tyBool, l47) ∷ (MAnswerWords′.mir, l48) ∷ ((tyInt w64), l49) ∷ (tyPtr, l50) ∷ (tyPtr, l51) ∷ (MHead′.mir, l52) ∷ ((tyRef erased mut (pointee (R-i64x128 .written))), l53) ∷ ((tyRef erased mut (pointee (R-i32x128 .written))), l54) ∷ ((tyRef erased mut (pointee (R-u8x128 .written))), l55) ∷ (MAnswerWords′.mir, l56) ∷ (MAnswerWords′.mir, l57) ∷ (MHead′.mir, l58) ∷ ((tyRef erased mut (pointee (R-i64x128 .written))), l59) ∷ ((tyRef erased mut (pointee (R-i32x128 .written))), l60) ∷ ((tyRef erased mut (pointee (R-u8x128 .written))), l61) ∷ []
+      En = (tyUnit, l0) ∷ ((tyRef (named 0) mut (pointee (R-UnitWords .written))), l1) ∷ ((tyRef (named 1) mut (pointee (R-Servo .written))), l2) ∷ ((sliceTy (tyRef (named 2) mut (pointee (R-MasterWords .written)))), l3) ∷ ((tyRef (named 3) mut (pointee (R-Watch .written))), l4) ∷ ((sliceTy (tyRef (named 4) mut (tyInt w8))), l5) ∷ ((tyInt w64), l6) ∷ (MStamp′.mir, l7) ∷ ((tyRef (named 5) mut (pointee (R-AnswerWords .written))), l8) ∷ (MReceived′.mir, l9) ∷ (tyBool, l10) ∷ (MMessage′.mir, l11) ∷ (MSettingsWords′.mir, l12) ∷ (MStateWords′.mir, l13) ∷ (tyBool, l14) ∷ ((tyInt w32), l15) ∷ (MLooked′.mir, l16) ∷ (MLooked′.mir, l17) ∷ (MLooked′.mir, l18) ∷ (MLooked′.mir, l19) ∷ (MLooked′.mir, l20) ∷ (MSeat′.mir, l21) ∷ (tyBool, l22) ∷ ((tyInt w64), l23) ∷ (MMasterWords′.mir, l24) ∷ (MHeld′.mir, l25) ∷ (tyBool, l26) ∷ (MEmptied′.mir, l27) ∷ (MHalvesWords′.mir, l28) ∷ (MDelaysWords′.mir, l29) ∷ (MTold′.mir, l30) ∷ (tyBool, l31) ∷ (MServo′.mir, l32) ∷ (MAccepted′.mir, l33) ∷ (tyBool, l34) ∷ (tyBool, l35) ∷ (MServo′.mir, l36) ∷ ((tyInt w8), l37) ∷ ((tyInt w16), l38) ∷ ((tyRef erased mut (tyInt w8)), l39) ∷ ((sliceTy (tyRef erased mut (tyInt w8))), l40) ∷ (tyBool, l41) ∷ (MAnswerWords′.mir, l42) ∷ ((tyInt w64), l43) ∷ (MAnswerWords′.mir, l44) ∷ (tyPtr, l45) ∷ (MMasterWords′.mir, l46) ∷ (tyPtr, l47) ∷ (tyPtr, l48) ∷ (tyPtr, l49) ∷ (tyPtr, l50) ∷ (tyBool, l51) ∷ (MAnswerWords′.mir, l52) ∷ ((tyInt w64), l53) ∷ (tyPtr, l54) ∷ (tyPtr, l55) ∷ (MHead′.mir, l56) ∷ ((tyRef erased mut (pointee (R-i64x128 .written))), l57) ∷ ((tyRef erased mut (pointee (R-i32x128 .written))), l58) ∷ ((tyRef erased mut (pointee (R-u8x128 .written))), l59) ∷ (MAnswerWords′.mir, l60) ∷ (MAnswerWords′.mir, l61) ∷ (MHead′.mir, l62) ∷ ((tyRef erased mut (pointee (R-i64x128 .written))), l63) ∷ ((tyRef erased mut (pointee (R-i32x128 .written))), l64) ∷ ((tyRef erased mut (pointee (R-u8x128 .written))), l65) ∷ []
 
       -- every local is freed
-      freed : (Γ : List (Item 𝓤)) (v : Val) → Sq W Γ (prop (Post v)) → Sq W (‵ (froom tyUnit l0 0) ∷ ‵ (fdies tyUnit l0) ∷ ‵ (froom (tyRef (named 0) mut (pointee (R-UnitWords .written))) l1 0) ∷ ‵ (fdies (tyRef (named 0) mut (pointee (R-UnitWords .written))) l1) ∷ ‵ (froom (tyRef (named 1) mut (pointee (R-Servo .written))) l2 0) ∷ ‵ (fdies (tyRef (named 1) mut (pointee (R-Servo .written))) l2) ∷ ‵ (froom (sliceTy (tyRef (named 2) mut (pointee (R-MasterWords .written)))) l3 0) ∷ ‵ (fdies (sliceTy (tyRef (named 2) mut (pointee (R-MasterWords .written)))) l3) ∷ ‵ (froom (tyRef (named 3) mut (pointee (R-Watch .written))) l4 0) ∷ ‵ (fdies (tyRef (named 3) mut (pointee (R-Watch .written))) l4) ∷ ‵ (froom (sliceTy (tyRef (named 4) mut (tyInt w8))) l5 0) ∷ ‵ (fdies (sliceTy (tyRef (named 4) mut (tyInt w8))) l5) ∷ ‵ (froom (tyInt w64) l6 0) ∷ ‵ (fdies (tyInt w64) l6) ∷ ‵ (froom MStamp′.mir l7 0) ∷ ‵ (fdies MStamp′.mir l7) ∷ ‵ (froom (tyRef (named 5) mut (pointee (R-AnswerWords .written))) l8 0) ∷ ‵ (fdies (tyRef (named 5) mut (pointee (R-AnswerWords .written))) l8) ∷ ‵ (froom MReceived′.mir l9 0) ∷ ‵ (fdies MReceived′.mir l9) ∷ ‵ (froom tyBool l10 0) ∷ ‵ (fdies tyBool l10) ∷ ‵ (froom MMessage′.mir l11 0) ∷ ‵ (fdies MMessage′.mir l11) ∷ ‵ (froom MSettingsWords′.mir l12 0) ∷ ‵ (fdies MSettingsWords′.mir l12) ∷ ‵ (froom MStateWords′.mir l13 0) ∷ ‵ (fdies MStateWords′.mir l13) ∷ ‵ (froom tyBool l14 0) ∷ ‵ (fdies tyBool l14) ∷ ‵ (froom (tyInt w32) l15 0) ∷ ‵ (fdies (tyInt w32) l15) ∷ ‵ (froom MLooked′.mir l16 0) ∷ ‵ (fdies MLooked′.mir l16) ∷ ‵ (froom MLooked′.mir l17 0) ∷ ‵ (fdies MLooked′.mir l17) ∷ ‵ (froom MLooked′.mir l18 0) ∷ ‵ (fdies MLooked′.mir l18) ∷ ‵ (froom MLooked′.mir l19 0) ∷ ‵ (fdies MLooked′.mir l19) ∷ ‵ (froom MLooked′.mir l20 0) ∷ ‵ (fdies MLooked′.mir l20) ∷ ‵ (froom MSeat′.mir l21 0) ∷ ‵ (fdies MSeat′.mir l21) ∷ ‵ (froom tyBool l22 0) ∷ ‵ (fdies tyBool l22) ∷ ‵ (froom (tyInt w64) l23 0) ∷ ‵ (fdies (tyInt w64) l23) ∷ ‵ (froom MMasterWords′.mir l24 0) ∷ ‵ (fdies MMasterWords′.mir l24) ∷ ‵ (froom MHeld′.mir l25 0) ∷ ‵ (fdies MHeld′.mir l25) ∷ ‵ (froom tyBool l26 0) ∷ ‵ (fdies tyBool l26) ∷ ‵ (froom MEmptied′.mir l27 0) ∷ ‵ (fdies MEmptied′.mir l27) ∷ ‵ (froom MHalvesWords′.mir l28 0) ∷ ‵ (fdies MHalvesWords′.mir l28) ∷ ‵ (froom MDelaysWords′.mir l29 0) ∷ ‵ (fdies MDelaysWords′.mir l29) ∷ ‵ (froom MTold′.mir l30 0) ∷ ‵ (fdies MTold′.mir l30) ∷ ‵ (froom tyBool l31 0) ∷ ‵ (fdies tyBool l31) ∷ ‵ (froom MServo′.mir l32 0) ∷ ‵ (fdies MServo′.mir l32) ∷ ‵ (froom MServo′.mir l33 0) ∷ ‵ (fdies MServo′.mir l33) ∷ ‵ (froom tyBool l34 0) ∷ ‵ (fdies tyBool l34) ∷ ‵ (froom (tyRef erased mut (tyInt w8)) l35 0) ∷ ‵ (fdies (tyRef erased mut (tyInt w8)) l35) ∷ ‵ (froom (sliceTy (tyRef erased mut (tyInt w8))) l36 0) ∷ ‵ (fdies (sliceTy (tyRef erased mut (tyInt w8))) l36) ∷ ‵ (froom tyBool l37 0) ∷ ‵ (fdies tyBool l37) ∷ ‵ (froom MAnswerWords′.mir l38 0) ∷ ‵ (fdies MAnswerWords′.mir l38) ∷ ‵ (froom (tyInt w64) l39 0) ∷ ‵ (fdies (tyInt w64) l39) ∷ ‵ (froom MAnswerWords′.mir l40 0) ∷ ‵ (fdies MAnswerWords′.mir l40) ∷ ‵ (froom tyPtr l41 0) ∷ ‵ (fdies tyPtr l41) ∷ ‵ (froom MMasterWords′.mir l42 0) ∷ ‵ (fdies MMasterWords′.mir l42) ∷ ‵ (froom tyPtr l43 0) ∷ ‵ (fdies tyPtr l43) ∷ ‵ (froom tyPtr l44 0) ∷ ‵ (fdies tyPtr l44) ∷ ‵ (froom tyPtr l45 0) ∷ ‵ (fdies tyPtr l45) ∷ ‵ (froom tyPtr l46 0) ∷ ‵ (fdies tyPtr l46) ∷ ‵ (froom tyBool l47 0) ∷ ‵ (fdies tyBool l47) ∷ ‵ (froom MAnswerWords′.mir l48 0) ∷ ‵ (fdies MAnswerWords′.mir l48) ∷ ‵ (froom (tyInt w64) l49 0) ∷ ‵ (fdies (tyInt w64) l49) ∷ ‵ (froom tyPtr l50 0) ∷ ‵ (fdies tyPtr l50) ∷ ‵ (froom tyPtr l51 0) ∷ ‵ (fdies tyPtr l51) ∷ ‵ (froom MHead′.mir l52 0) ∷ ‵ (fdies MHead′.mir l52) ∷ ‵ (froom (tyRef erased mut (pointee (R-i64x128 .written))) l53 0) ∷ ‵ (fdies (tyRef erased mut (pointee (R-i64x128 .written))) l53) ∷ ‵ (froom (tyRef erased mut (pointee (R-i32x128 .written))) l54 0) ∷ ‵ (fdies (tyRef erased mut (pointee (R-i32x128 .written))) l54) ∷ ‵ (froom (tyRef erased mut (pointee (R-u8x128 .written))) l55 0) ∷ ‵ (fdies (tyRef erased mut (pointee (R-u8x128 .written))) l55) ∷ ‵ (froom MAnswerWords′.mir l56 0) ∷ ‵ (fdies MAnswerWords′.mir l56) ∷ ‵ (froom MAnswerWords′.mir l57 0) ∷ ‵ (fdies MAnswerWords′.mir l57) ∷ ‵ (froom MHead′.mir l58 0) ∷ ‵ (fdies MHead′.mir l58) ∷ ‵ (froom (tyRef erased mut (pointee (R-i64x128 .written))) l59 0) ∷ ‵ (fdies (tyRef erased mut (pointee (R-i64x128 .written))) l59) ∷ ‵ (froom (tyRef erased mut (pointee (R-i32x128 .written))) l60 0) ∷ ‵ (fdies (tyRef erased mut (pointee (R-i32x128 .written))) l60) ∷ ‵ (froom (tyRef erased mut (pointee (R-u8x128 .written))) l61 0) ∷ ‵ (fdies (tyRef erased mut (pointee (R-u8x128 .written))) l61) ∷ Γ) (frees En (prop (Post v)))
-      freed Γ v s = free1 ! $ free1 ! $ free1 ! $ free1 ! $ free1 ! $ free1 ! $ free1 ! $ free1 ! $ free1 ! $ free1 ! $ free1 ! $ free1 ! $ free1 ! $ free1 ! $ free1 ! $ free1 ! $ free1 ! $ free1 ! $ free1 ! $ free1 ! $ free1 ! $ free1 ! $ free1 ! $ free1 ! $ free1 ! $ free1 ! $ free1 ! $ free1 ! $ free1 ! $ free1 ! $ free1 ! $ free1 ! $ free1 ! $ free1 ! $ free1 ! $ free1 ! $ free1 ! $ free1 ! $ free1 ! $ free1 ! $ free1 ! $ free1 ! $ free1 ! $ free1 ! $ free1 ! $ free1 ! $ free1 ! $ free1 ! $ free1 ! $ free1 ! $ free1 ! $ free1 ! $ free1 ! $ free1 ! $ free1 ! $ free1 ! $ free1 ! $ free1 ! $ free1 ! $ free1 ! $ free1 ! $ free1 ! $ free0 ! $ s
+      freed : (Γ : List (Item 𝓤)) (v : Val) → Sq W Γ (prop (Post v)) → Sq W (‵ (froom tyUnit l0 0) ∷ ‵ (fdies tyUnit l0) ∷ ‵ (froom (tyRef (named 0) mut (pointee (R-UnitWords .written))) l1 0) ∷ ‵ (fdies (tyRef (named 0) mut (pointee (R-UnitWords .written))) l1) ∷ ‵ (froom (tyRef (named 1) mut (pointee (R-Servo .written))) l2 0) ∷ ‵ (fdies (tyRef (named 1) mut (pointee (R-Servo .written))) l2) ∷ ‵ (froom (sliceTy (tyRef (named 2) mut (pointee (R-MasterWords .written)))) l3 0) ∷ ‵ (fdies (sliceTy (tyRef (named 2) mut (pointee (R-MasterWords .written)))) l3) ∷ ‵ (froom (tyRef (named 3) mut (pointee (R-Watch .written))) l4 0) ∷ ‵ (fdies (tyRef (named 3) mut (pointee (R-Watch .written))) l4) ∷ ‵ (froom (sliceTy (tyRef (named 4) mut (tyInt w8))) l5 0) ∷ ‵ (fdies (sliceTy (tyRef (named 4) mut (tyInt w8))) l5) ∷ ‵ (froom (tyInt w64) l6 0) ∷ ‵ (fdies (tyInt w64) l6) ∷ ‵ (froom MStamp′.mir l7 0) ∷ ‵ (fdies MStamp′.mir l7) ∷ ‵ (froom (tyRef (named 5) mut (pointee (R-AnswerWords .written))) l8 0) ∷ ‵ (fdies (tyRef (named 5) mut (pointee (R-AnswerWords .written))) l8) ∷ ‵ (froom MReceived′.mir l9 0) ∷ ‵ (fdies MReceived′.mir l9) ∷ ‵ (froom tyBool l10 0) ∷ ‵ (fdies tyBool l10) ∷ ‵ (froom MMessage′.mir l11 0) ∷ ‵ (fdies MMessage′.mir l11) ∷ ‵ (froom MSettingsWords′.mir l12 0) ∷ ‵ (fdies MSettingsWords′.mir l12) ∷ ‵ (froom MStateWords′.mir l13 0) ∷ ‵ (fdies MStateWords′.mir l13) ∷ ‵ (froom tyBool l14 0) ∷ ‵ (fdies tyBool l14) ∷ ‵ (froom (tyInt w32) l15 0) ∷ ‵ (fdies (tyInt w32) l15) ∷ ‵ (froom MLooked′.mir l16 0) ∷ ‵ (fdies MLooked′.mir l16) ∷ ‵ (froom MLooked′.mir l17 0) ∷ ‵ (fdies MLooked′.mir l17) ∷ ‵ (froom MLooked′.mir l18 0) ∷ ‵ (fdies MLooked′.mir l18) ∷ ‵ (froom MLooked′.mir l19 0) ∷ ‵ (fdies MLooked′.mir l19) ∷ ‵ (froom MLooked′.mir l20 0) ∷ ‵ (fdies MLooked′.mir l20) ∷ ‵ (froom MSeat′.mir l21 0) ∷ ‵ (fdies MSeat′.mir l21) ∷ ‵ (froom tyBool l22 0) ∷ ‵ (fdies tyBool l22) ∷ ‵ (froom (tyInt w64) l23 0) ∷ ‵ (fdies (tyInt w64) l23) ∷ ‵ (froom MMasterWords′.mir l24 0) ∷ ‵ (fdies MMasterWords′.mir l24) ∷ ‵ (froom MHeld′.mir l25 0) ∷ ‵ (fdies MHeld′.mir l25) ∷ ‵ (froom tyBool l26 0) ∷ ‵ (fdies tyBool l26) ∷ ‵ (froom MEmptied′.mir l27 0) ∷ ‵ (fdies MEmptied′.mir l27) ∷ ‵ (froom MHalvesWords′.mir l28 0) ∷ ‵ (fdies MHalvesWords′.mir l28) ∷ ‵ (froom MDelaysWords′.mir l29 0) ∷ ‵ (fdies MDelaysWords′.mir l29) ∷ ‵ (froom MTold′.mir l30 0) ∷ ‵ (fdies MTold′.mir l30) ∷ ‵ (froom tyBool l31 0) ∷ ‵ (fdies tyBool l31) ∷ ‵ (froom MServo′.mir l32 0) ∷ ‵ (fdies MServo′.mir l32) ∷ ‵ (froom MAccepted′.mir l33 0) ∷ ‵ (fdies MAccepted′.mir l33) ∷ ‵ (froom tyBool l34 0) ∷ ‵ (fdies tyBool l34) ∷ ‵ (froom tyBool l35 0) ∷ ‵ (fdies tyBool l35) ∷ ‵ (froom MServo′.mir l36 0) ∷ ‵ (fdies MServo′.mir l36) ∷ ‵ (froom (tyInt w8) l37 0) ∷ ‵ (fdies (tyInt w8) l37) ∷ ‵ (froom (tyInt w16) l38 0) ∷ ‵ (fdies (tyInt w16) l38) ∷ ‵ (froom (tyRef erased mut (tyInt w8)) l39 0) ∷ ‵ (fdies (tyRef erased mut (tyInt w8)) l39) ∷ ‵ (froom (sliceTy (tyRef erased mut (tyInt w8))) l40 0) ∷ ‵ (fdies (sliceTy (tyRef erased mut (tyInt w8))) l40) ∷ ‵ (froom tyBool l41 0) ∷ ‵ (fdies tyBool l41) ∷ ‵ (froom MAnswerWords′.mir l42 0) ∷ ‵ (fdies MAnswerWords′.mir l42) ∷ ‵ (froom (tyInt w64) l43 0) ∷ ‵ (fdies (tyInt w64) l43) ∷ ‵ (froom MAnswerWords′.mir l44 0) ∷ ‵ (fdies MAnswerWords′.mir l44) ∷ ‵ (froom tyPtr l45 0) ∷ ‵ (fdies tyPtr l45) ∷ ‵ (froom MMasterWords′.mir l46 0) ∷ ‵ (fdies MMasterWords′.mir l46) ∷ ‵ (froom tyPtr l47 0) ∷ ‵ (fdies tyPtr l47) ∷ ‵ (froom tyPtr l48 0) ∷ ‵ (fdies tyPtr l48) ∷ ‵ (froom tyPtr l49 0) ∷ ‵ (fdies tyPtr l49) ∷ ‵ (froom tyPtr l50 0) ∷ ‵ (fdies tyPtr l50) ∷ ‵ (froom tyBool l51 0) ∷ ‵ (fdies tyBool l51) ∷ ‵ (froom MAnswerWords′.mir l52 0) ∷ ‵ (fdies MAnswerWords′.mir l52) ∷ ‵ (froom (tyInt w64) l53 0) ∷ ‵ (fdies (tyInt w64) l53) ∷ ‵ (froom tyPtr l54 0) ∷ ‵ (fdies tyPtr l54) ∷ ‵ (froom tyPtr l55 0) ∷ ‵ (fdies tyPtr l55) ∷ ‵ (froom MHead′.mir l56 0) ∷ ‵ (fdies MHead′.mir l56) ∷ ‵ (froom (tyRef erased mut (pointee (R-i64x128 .written))) l57 0) ∷ ‵ (fdies (tyRef erased mut (pointee (R-i64x128 .written))) l57) ∷ ‵ (froom (tyRef erased mut (pointee (R-i32x128 .written))) l58 0) ∷ ‵ (fdies (tyRef erased mut (pointee (R-i32x128 .written))) l58) ∷ ‵ (froom (tyRef erased mut (pointee (R-u8x128 .written))) l59 0) ∷ ‵ (fdies (tyRef erased mut (pointee (R-u8x128 .written))) l59) ∷ ‵ (froom MAnswerWords′.mir l60 0) ∷ ‵ (fdies MAnswerWords′.mir l60) ∷ ‵ (froom MAnswerWords′.mir l61 0) ∷ ‵ (fdies MAnswerWords′.mir l61) ∷ ‵ (froom MHead′.mir l62 0) ∷ ‵ (fdies MHead′.mir l62) ∷ ‵ (froom (tyRef erased mut (pointee (R-i64x128 .written))) l63 0) ∷ ‵ (fdies (tyRef erased mut (pointee (R-i64x128 .written))) l63) ∷ ‵ (froom (tyRef erased mut (pointee (R-i32x128 .written))) l64 0) ∷ ‵ (fdies (tyRef erased mut (pointee (R-i32x128 .written))) l64) ∷ ‵ (froom (tyRef erased mut (pointee (R-u8x128 .written))) l65 0) ∷ ‵ (fdies (tyRef erased mut (pointee (R-u8x128 .written))) l65) ∷ Γ) (frees En (prop (Post v)))
+      freed Γ v s = free1 ! $ free1 ! $ free1 ! $ free1 ! $ free1 ! $ free1 ! $ free1 ! $ free1 ! $ free1 ! $ free1 ! $ free1 ! $ free1 ! $ free1 ! $ free1 ! $ free1 ! $ free1 ! $ free1 ! $ free1 ! $ free1 ! $ free1 ! $ free1 ! $ free1 ! $ free1 ! $ free1 ! $ free1 ! $ free1 ! $ free1 ! $ free1 ! $ free1 ! $ free1 ! $ free1 ! $ free1 ! $ free1 ! $ free1 ! $ free1 ! $ free1 ! $ free1 ! $ free1 ! $ free1 ! $ free1 ! $ free1 ! $ free1 ! $ free1 ! $ free1 ! $ free1 ! $ free1 ! $ free1 ! $ free1 ! $ free1 ! $ free1 ! $ free1 ! $ free1 ! $ free1 ! $ free1 ! $ free1 ! $ free1 ! $ free1 ! $ free1 ! $ free1 ! $ free1 ! $ free1 ! $ free1 ! $ free1 ! $ free1 ! $ free1 ! $ free1 ! $ free0 ! $ s
 
       abbrev i-6-1 : Part-of-code
       i-6-1 = then-of mir′.s-6
@@ -1826,42 +1826,42 @@ module _ {M : Type 1} (𝓤 : URA M) (H : Heap 𝓤) (A : Atoms 𝓤) (W : Given
       abbrev i-21-4 : Part-of-code
       i-21-4 = rest-of i-21-3
 
-      abbrev i-32-1 : Part-of-code
-      i-32-1 = then-of mir′.s-32
+      abbrev i-36-1 : Part-of-code
+      i-36-1 = then-of mir′.s-36
 
-      abbrev i-32-2 : Part-of-code
-      i-32-2 = rest-of i-32-1
+      abbrev i-36-2 : Part-of-code
+      i-36-2 = rest-of i-36-1
 
-      abbrev i-32-3 : Part-of-code
-      i-32-3 = rest-of i-32-2
+      abbrev i-36-3 : Part-of-code
+      i-36-3 = rest-of i-36-2
 
-      abbrev i-32-4 : Part-of-code
-      i-32-4 = rest-of i-32-3
+      abbrev i-36-4 : Part-of-code
+      i-36-4 = rest-of i-36-3
 
-      abbrev i-32-5 : Part-of-code
-      i-32-5 = rest-of i-32-4
+      abbrev i-36-5 : Part-of-code
+      i-36-5 = rest-of i-36-4
 
-      abbrev i-32-6 : Part-of-code
-      i-32-6 = rest-of i-32-5
+      abbrev i-36-6 : Part-of-code
+      i-36-6 = rest-of i-36-5
 
-      abbrev i-32-7 : Part-of-code
-      i-32-7 = rest-of i-32-6
+      abbrev i-36-7 : Part-of-code
+      i-36-7 = rest-of i-36-6
 
-      from-6-3 : (qq : Kit-Post 𝓤 H) (ee : post 𝓤 H qq returnsᴼ ≡ atReturn 𝓤 H En Post returnsᴼ) (zs-8 : List ℕ) (len-9 : length zs-8 ≡ length h5) (p-4 : SReceived.Received) (w-3 : Val) (e-6 : (p-4 ≡ receivedBy (readOf h5)) × (zs-8 ≡ h5)) (is-7 : Is R-Received p-4 (w-3 ∷ [])) (held1 : Holds (p-4 .barred)) (p-11 : SAnswerWords.AnswerWords) (w-10 : Val) (e-12 : p-11 ≡ refusing (p-4 .number)) (is-13 : Is R-AnswerWords p-11 (w-10 ∷ [])) → Sq W (‵ (fobs γ8 (R-AnswerWords .coded .code p-11)) ∷ ‵ (fbor κ8 (Body (mem R-AnswerWords) b8 o8 γ8)) ∷ ‵ (flft κ8 q8) ∷ ‵ (MutSlice (named 4) κ5 R-u8 .own (x5 zs-8) ((sliceVal (b5, o5) (length h5)) ∷ [])) ∷ ‵ (flft κ5 q5) ∷ ‵ (flft κ4 q4) ∷ ‵ (flft κ3 q3) ∷ ‵ (flft κ2 q2) ∷ ‵ (flft κ1 q1) ∷ ‵ (ftrue) ∷ ‵ (R-Stamp .own h7 (u7 ∷ [])) ∷ ‵ (R-u64 .own h6 (u6 ∷ [])) ∷ ‵ (fobs γ4 (R-Watch .coded .code h4)) ∷ ‵ (fbor κ4 (Body (mem R-Watch) b4 o4 γ4)) ∷ ‵ (fobs γ3 (codedHoleys R-MasterWords .code (heres R-MasterWords h3))) ∷ ‵ (fbor κ3 (Held R-MasterWords (length h3) b3 o3 γ3)) ∷ ‵ (at-slice R-MasterWords (x3 h3) ((sliceVal (b3, o3) (length h3)) ∷ [])) ∷ ‵ (fobs γ2 (R-Servo .coded .code h2)) ∷ ‵ (fbor κ2 (Body (mem R-Servo) b2 o2 γ2)) ∷ ‵ (fobs γ1 (R-UnitWords .coded .code h1)) ∷ ‵ (fbor κ1 (Body (mem R-UnitWords) b1 o1 γ1)) ∷ ‵ (froom (tyRef erased mut (pointee (R-u8x128 .written))) l61 0) ∷ ‵ (fdies (tyRef erased mut (pointee (R-u8x128 .written))) l61) ∷ ‵ (froom (tyRef erased mut (pointee (R-i32x128 .written))) l60 0) ∷ ‵ (fdies (tyRef erased mut (pointee (R-i32x128 .written))) l60) ∷ ‵ (froom (tyRef erased mut (pointee (R-i64x128 .written))) l59 0) ∷ ‵ (fdies (tyRef erased mut (pointee (R-i64x128 .written))) l59) ∷ ‵ (froom MHead′.mir l58 0) ∷ ‵ (fdies MHead′.mir l58) ∷ ‵ (froom MAnswerWords′.mir l57 0) ∷ ‵ (fdies MAnswerWords′.mir l57) ∷ ‵ (froom MAnswerWords′.mir l56 0) ∷ ‵ (fdies MAnswerWords′.mir l56) ∷ ‵ (froom (tyRef erased mut (pointee (R-u8x128 .written))) l55 0) ∷ ‵ (fdies (tyRef erased mut (pointee (R-u8x128 .written))) l55) ∷ ‵ (froom (tyRef erased mut (pointee (R-i32x128 .written))) l54 0) ∷ ‵ (fdies (tyRef erased mut (pointee (R-i32x128 .written))) l54) ∷ ‵ (froom (tyRef erased mut (pointee (R-i64x128 .written))) l53 0) ∷ ‵ (fdies (tyRef erased mut (pointee (R-i64x128 .written))) l53) ∷ ‵ (froom MHead′.mir l52 0) ∷ ‵ (fdies MHead′.mir l52) ∷ ‵ (froom tyPtr l51 0) ∷ ‵ (fdies tyPtr l51) ∷ ‵ (froom tyPtr l50 0) ∷ ‵ (fdies tyPtr l50) ∷ ‵ (froom (tyInt w64) l49 0) ∷ ‵ (fdies (tyInt w64) l49) ∷ ‵ (froom MAnswerWords′.mir l48 0) ∷ ‵ (fdies MAnswerWords′.mir l48) ∷ ‵ (froom tyBool l47 0) ∷ ‵ (fdies tyBool l47) ∷ ‵ (froom tyPtr l46 0) ∷ ‵ (fdies tyPtr l46) ∷ ‵ (froom tyPtr l45 0) ∷ ‵ (fdies tyPtr l45) ∷ ‵ (froom tyPtr l44 0) ∷ ‵ (fdies tyPtr l44) ∷ ‵ (froom tyPtr l43 0) ∷ ‵ (fdies tyPtr l43) ∷ ‵ (froom MMasterWords′.mir l42 0) ∷ ‵ (fdies MMasterWords′.mir l42) ∷ ‵ (froom tyPtr l41 0) ∷ ‵ (fdies tyPtr l41) ∷ ‵ (froom MAnswerWords′.mir l40 0) ∷ ‵ (fdies MAnswerWords′.mir l40) ∷ ‵ (froom (tyInt w64) l39 0) ∷ ‵ (fdies (tyInt w64) l39) ∷ ‵ (froom MAnswerWords′.mir l38 0) ∷ ‵ (fdies MAnswerWords′.mir l38) ∷ ‵ (froom tyBool l37 0) ∷ ‵ (fdies tyBool l37) ∷ ‵ (froom (sliceTy (tyRef erased mut (tyInt w8))) l36 0) ∷ ‵ (fdies (sliceTy (tyRef erased mut (tyInt w8))) l36) ∷ ‵ (froom (tyRef erased mut (tyInt w8)) l35 0) ∷ ‵ (fdies (tyRef erased mut (tyInt w8)) l35) ∷ ‵ (froom tyBool l34 0) ∷ ‵ (fdies tyBool l34) ∷ ‵ (froom MServo′.mir l33 0) ∷ ‵ (fdies MServo′.mir l33) ∷ ‵ (froom MServo′.mir l32 0) ∷ ‵ (fdies MServo′.mir l32) ∷ ‵ (froom tyBool l31 0) ∷ ‵ (fdies tyBool l31) ∷ ‵ (froom MTold′.mir l30 0) ∷ ‵ (fdies MTold′.mir l30) ∷ ‵ (froom MDelaysWords′.mir l29 0) ∷ ‵ (fdies MDelaysWords′.mir l29) ∷ ‵ (froom MHalvesWords′.mir l28 0) ∷ ‵ (fdies MHalvesWords′.mir l28) ∷ ‵ (froom MEmptied′.mir l27 0) ∷ ‵ (fdies MEmptied′.mir l27) ∷ ‵ (froom tyBool l26 0) ∷ ‵ (fdies tyBool l26) ∷ ‵ (froom MHeld′.mir l25 0) ∷ ‵ (fdies MHeld′.mir l25) ∷ ‵ (froom MMasterWords′.mir l24 0) ∷ ‵ (fdies MMasterWords′.mir l24) ∷ ‵ (froom (tyInt w64) l23 0) ∷ ‵ (fdies (tyInt w64) l23) ∷ ‵ (froom tyBool l22 0) ∷ ‵ (fdies tyBool l22) ∷ ‵ (froom MSeat′.mir l21 0) ∷ ‵ (fdies MSeat′.mir l21) ∷ ‵ (froom MLooked′.mir l20 0) ∷ ‵ (fdies MLooked′.mir l20) ∷ ‵ (froom MLooked′.mir l19 0) ∷ ‵ (fdies MLooked′.mir l19) ∷ ‵ (froom MLooked′.mir l18 0) ∷ ‵ (fdies MLooked′.mir l18) ∷ ‵ (froom MLooked′.mir l17 0) ∷ ‵ (fdies MLooked′.mir l17) ∷ ‵ (froom MLooked′.mir l16 0) ∷ ‵ (fdies MLooked′.mir l16) ∷ ‵ (froom (tyInt w32) l15 0) ∷ ‵ (fdies (tyInt w32) l15) ∷ ‵ (froom tyBool l14 0) ∷ ‵ (fdies tyBool l14) ∷ ‵ (froom MStateWords′.mir l13 0) ∷ ‵ (fdies MStateWords′.mir l13) ∷ ‵ (froom MSettingsWords′.mir l12 0) ∷ ‵ (fdies MSettingsWords′.mir l12) ∷ ‵ (froom MMessage′.mir l11 0) ∷ ‵ (fdies MMessage′.mir l11) ∷ ‵ (froom tyBool l10 0) ∷ ‵ (fdies tyBool l10) ∷ ‵ (froom MReceived′.mir l9 0) ∷ ‵ (fdies MReceived′.mir l9) ∷ ‵ (froom (tyRef (named 5) mut (pointee (R-AnswerWords .written))) l8 0) ∷ ‵ (fdies (tyRef (named 5) mut (pointee (R-AnswerWords .written))) l8) ∷ ‵ (froom MStamp′.mir l7 0) ∷ ‵ (fdies MStamp′.mir l7) ∷ ‵ (froom (tyInt w64) l6 0) ∷ ‵ (fdies (tyInt w64) l6) ∷ ‵ (froom (sliceTy (tyRef (named 4) mut (tyInt w8))) l5 0) ∷ ‵ (fdies (sliceTy (tyRef (named 4) mut (tyInt w8))) l5) ∷ ‵ (froom (tyRef (named 3) mut (pointee (R-Watch .written))) l4 0) ∷ ‵ (fdies (tyRef (named 3) mut (pointee (R-Watch .written))) l4) ∷ ‵ (froom (sliceTy (tyRef (named 2) mut (pointee (R-MasterWords .written)))) l3 0) ∷ ‵ (fdies (sliceTy (tyRef (named 2) mut (pointee (R-MasterWords .written)))) l3) ∷ ‵ (froom (tyRef (named 1) mut (pointee (R-Servo .written))) l2 0) ∷ ‵ (fdies (tyRef (named 1) mut (pointee (R-Servo .written))) l2) ∷ ‵ (froom (tyRef (named 0) mut (pointee (R-UnitWords .written))) l1 0) ∷ ‵ (fdies (tyRef (named 0) mut (pointee (R-UnitWords .written))) l1) ∷ ‵ (froom tyUnit l0 0) ∷ ‵ (fdies tyUnit l0) ∷ []) (runs C Λ En i-6-3 qq)
+      from-6-3 : (qq : Kit-Post 𝓤 H) (ee : post 𝓤 H qq returnsᴼ ≡ atReturn 𝓤 H En Post returnsᴼ) (zs-8 : List ℕ) (len-9 : length zs-8 ≡ length h5) (p-4 : SReceived.Received) (w-3 : Val) (e-6 : (p-4 ≡ receivedBy (readOf h5)) × (zs-8 ≡ h5)) (is-7 : Is R-Received p-4 (w-3 ∷ [])) (held1 : Holds (p-4 .barred)) (p-11 : SAnswerWords.AnswerWords) (w-10 : Val) (e-12 : p-11 ≡ refusing (p-4 .number)) (is-13 : Is R-AnswerWords p-11 (w-10 ∷ [])) → Sq W (‵ (fobs γ8 (R-AnswerWords .coded .code p-11)) ∷ ‵ (fbor κ8 (Body (mem R-AnswerWords) b8 o8 γ8)) ∷ ‵ (flft κ8 q8) ∷ ‵ (MutSlice (named 4) κ5 R-u8 .own (x5 zs-8) ((sliceVal (b5, o5) (length h5)) ∷ [])) ∷ ‵ (flft κ5 q5) ∷ ‵ (flft κ4 q4) ∷ ‵ (flft κ3 q3) ∷ ‵ (flft κ2 q2) ∷ ‵ (flft κ1 q1) ∷ ‵ (ftrue) ∷ ‵ (R-Stamp .own h7 (u7 ∷ [])) ∷ ‵ (R-u64 .own h6 (u6 ∷ [])) ∷ ‵ (fobs γ4 (R-Watch .coded .code h4)) ∷ ‵ (fbor κ4 (Body (mem R-Watch) b4 o4 γ4)) ∷ ‵ (fobs γ3 (codedHoleys R-MasterWords .code (heres R-MasterWords h3))) ∷ ‵ (fbor κ3 (Held R-MasterWords (length h3) b3 o3 γ3)) ∷ ‵ (at-slice R-MasterWords (x3 h3) ((sliceVal (b3, o3) (length h3)) ∷ [])) ∷ ‵ (fobs γ2 (R-Servo .coded .code h2)) ∷ ‵ (fbor κ2 (Body (mem R-Servo) b2 o2 γ2)) ∷ ‵ (fobs γ1 (R-UnitWords .coded .code h1)) ∷ ‵ (fbor κ1 (Body (mem R-UnitWords) b1 o1 γ1)) ∷ ‵ (froom (tyRef erased mut (pointee (R-u8x128 .written))) l65 0) ∷ ‵ (fdies (tyRef erased mut (pointee (R-u8x128 .written))) l65) ∷ ‵ (froom (tyRef erased mut (pointee (R-i32x128 .written))) l64 0) ∷ ‵ (fdies (tyRef erased mut (pointee (R-i32x128 .written))) l64) ∷ ‵ (froom (tyRef erased mut (pointee (R-i64x128 .written))) l63 0) ∷ ‵ (fdies (tyRef erased mut (pointee (R-i64x128 .written))) l63) ∷ ‵ (froom MHead′.mir l62 0) ∷ ‵ (fdies MHead′.mir l62) ∷ ‵ (froom MAnswerWords′.mir l61 0) ∷ ‵ (fdies MAnswerWords′.mir l61) ∷ ‵ (froom MAnswerWords′.mir l60 0) ∷ ‵ (fdies MAnswerWords′.mir l60) ∷ ‵ (froom (tyRef erased mut (pointee (R-u8x128 .written))) l59 0) ∷ ‵ (fdies (tyRef erased mut (pointee (R-u8x128 .written))) l59) ∷ ‵ (froom (tyRef erased mut (pointee (R-i32x128 .written))) l58 0) ∷ ‵ (fdies (tyRef erased mut (pointee (R-i32x128 .written))) l58) ∷ ‵ (froom (tyRef erased mut (pointee (R-i64x128 .written))) l57 0) ∷ ‵ (fdies (tyRef erased mut (pointee (R-i64x128 .written))) l57) ∷ ‵ (froom MHead′.mir l56 0) ∷ ‵ (fdies MHead′.mir l56) ∷ ‵ (froom tyPtr l55 0) ∷ ‵ (fdies tyPtr l55) ∷ ‵ (froom tyPtr l54 0) ∷ ‵ (fdies tyPtr l54) ∷ ‵ (froom (tyInt w64) l53 0) ∷ ‵ (fdies (tyInt w64) l53) ∷ ‵ (froom MAnswerWords′.mir l52 0) ∷ ‵ (fdies MAnswerWords′.mir l52) ∷ ‵ (froom tyBool l51 0) ∷ ‵ (fdies tyBool l51) ∷ ‵ (froom tyPtr l50 0) ∷ ‵ (fdies tyPtr l50) ∷ ‵ (froom tyPtr l49 0) ∷ ‵ (fdies tyPtr l49) ∷ ‵ (froom tyPtr l48 0) ∷ ‵ (fdies tyPtr l48) ∷ ‵ (froom tyPtr l47 0) ∷ ‵ (fdies tyPtr l47) ∷ ‵ (froom MMasterWords′.mir l46 0) ∷ ‵ (fdies MMasterWords′.mir l46) ∷ ‵ (froom tyPtr l45 0) ∷ ‵ (fdies tyPtr l45) ∷ ‵ (froom MAnswerWords′.mir l44 0) ∷ ‵ (fdies MAnswerWords′.mir l44) ∷ ‵ (froom (tyInt w64) l43 0) ∷ ‵ (fdies (tyInt w64) l43) ∷ ‵ (froom MAnswerWords′.mir l42 0) ∷ ‵ (fdies MAnswerWords′.mir l42) ∷ ‵ (froom tyBool l41 0) ∷ ‵ (fdies tyBool l41) ∷ ‵ (froom (sliceTy (tyRef erased mut (tyInt w8))) l40 0) ∷ ‵ (fdies (sliceTy (tyRef erased mut (tyInt w8))) l40) ∷ ‵ (froom (tyRef erased mut (tyInt w8)) l39 0) ∷ ‵ (fdies (tyRef erased mut (tyInt w8)) l39) ∷ ‵ (froom (tyInt w16) l38 0) ∷ ‵ (fdies (tyInt w16) l38) ∷ ‵ (froom (tyInt w8) l37 0) ∷ ‵ (fdies (tyInt w8) l37) ∷ ‵ (froom MServo′.mir l36 0) ∷ ‵ (fdies MServo′.mir l36) ∷ ‵ (froom tyBool l35 0) ∷ ‵ (fdies tyBool l35) ∷ ‵ (froom tyBool l34 0) ∷ ‵ (fdies tyBool l34) ∷ ‵ (froom MAccepted′.mir l33 0) ∷ ‵ (fdies MAccepted′.mir l33) ∷ ‵ (froom MServo′.mir l32 0) ∷ ‵ (fdies MServo′.mir l32) ∷ ‵ (froom tyBool l31 0) ∷ ‵ (fdies tyBool l31) ∷ ‵ (froom MTold′.mir l30 0) ∷ ‵ (fdies MTold′.mir l30) ∷ ‵ (froom MDelaysWords′.mir l29 0) ∷ ‵ (fdies MDelaysWords′.mir l29) ∷ ‵ (froom MHalvesWords′.mir l28 0) ∷ ‵ (fdies MHalvesWords′.mir l28) ∷ ‵ (froom MEmptied′.mir l27 0) ∷ ‵ (fdies MEmptied′.mir l27) ∷ ‵ (froom tyBool l26 0) ∷ ‵ (fdies tyBool l26) ∷ ‵ (froom MHeld′.mir l25 0) ∷ ‵ (fdies MHeld′.mir l25) ∷ ‵ (froom MMasterWords′.mir l24 0) ∷ ‵ (fdies MMasterWords′.mir l24) ∷ ‵ (froom (tyInt w64) l23 0) ∷ ‵ (fdies (tyInt w64) l23) ∷ ‵ (froom tyBool l22 0) ∷ ‵ (fdies tyBool l22) ∷ ‵ (froom MSeat′.mir l21 0) ∷ ‵ (fdies MSeat′.mir l21) ∷ ‵ (froom MLooked′.mir l20 0) ∷ ‵ (fdies MLooked′.mir l20) ∷ ‵ (froom MLooked′.mir l19 0) ∷ ‵ (fdies MLooked′.mir l19) ∷ ‵ (froom MLooked′.mir l18 0) ∷ ‵ (fdies MLooked′.mir l18) ∷ ‵ (froom MLooked′.mir l17 0) ∷ ‵ (fdies MLooked′.mir l17) ∷ ‵ (froom MLooked′.mir l16 0) ∷ ‵ (fdies MLooked′.mir l16) ∷ ‵ (froom (tyInt w32) l15 0) ∷ ‵ (fdies (tyInt w32) l15) ∷ ‵ (froom tyBool l14 0) ∷ ‵ (fdies tyBool l14) ∷ ‵ (froom MStateWords′.mir l13 0) ∷ ‵ (fdies MStateWords′.mir l13) ∷ ‵ (froom MSettingsWords′.mir l12 0) ∷ ‵ (fdies MSettingsWords′.mir l12) ∷ ‵ (froom MMessage′.mir l11 0) ∷ ‵ (fdies MMessage′.mir l11) ∷ ‵ (froom tyBool l10 0) ∷ ‵ (fdies tyBool l10) ∷ ‵ (froom MReceived′.mir l9 0) ∷ ‵ (fdies MReceived′.mir l9) ∷ ‵ (froom (tyRef (named 5) mut (pointee (R-AnswerWords .written))) l8 0) ∷ ‵ (fdies (tyRef (named 5) mut (pointee (R-AnswerWords .written))) l8) ∷ ‵ (froom MStamp′.mir l7 0) ∷ ‵ (fdies MStamp′.mir l7) ∷ ‵ (froom (tyInt w64) l6 0) ∷ ‵ (fdies (tyInt w64) l6) ∷ ‵ (froom (sliceTy (tyRef (named 4) mut (tyInt w8))) l5 0) ∷ ‵ (fdies (sliceTy (tyRef (named 4) mut (tyInt w8))) l5) ∷ ‵ (froom (tyRef (named 3) mut (pointee (R-Watch .written))) l4 0) ∷ ‵ (fdies (tyRef (named 3) mut (pointee (R-Watch .written))) l4) ∷ ‵ (froom (sliceTy (tyRef (named 2) mut (pointee (R-MasterWords .written)))) l3 0) ∷ ‵ (fdies (sliceTy (tyRef (named 2) mut (pointee (R-MasterWords .written)))) l3) ∷ ‵ (froom (tyRef (named 1) mut (pointee (R-Servo .written))) l2 0) ∷ ‵ (fdies (tyRef (named 1) mut (pointee (R-Servo .written))) l2) ∷ ‵ (froom (tyRef (named 0) mut (pointee (R-UnitWords .written))) l1 0) ∷ ‵ (fdies (tyRef (named 0) mut (pointee (R-UnitWords .written))) l1) ∷ ‵ (froom tyUnit l0 0) ∷ ‵ (fdies tyUnit l0) ∷ []) (runs C Λ En i-6-3 qq)
       from-6-3 qq ee zs-8 len-9 p-4 w-3 e-6 is-7 held1 p-11 w-10 e-12 is-13 =
-          assigns ! (of-opd ! (unit-lit !)) (from ! (stop !)) (init ! 143 refl (tt, tt)) $
-          returns-within ! Post ee (look ! 143 refl) $
-          forget ! 143 refl $
-          move ! (143 ∷ 144 ∷ 141 ∷ 142 ∷ 139 ∷ 140 ∷ 137 ∷ 138 ∷ 135 ∷ 136 ∷ 133 ∷ 134 ∷ 131 ∷ 132 ∷ 129 ∷ 130 ∷ 127 ∷ 128 ∷ 125 ∷ 126 ∷ 123 ∷ 124 ∷ 121 ∷ 122 ∷ 119 ∷ 120 ∷ 117 ∷ 118 ∷ 115 ∷ 116 ∷ 113 ∷ 114 ∷ 111 ∷ 112 ∷ 109 ∷ 110 ∷ 107 ∷ 108 ∷ 105 ∷ 106 ∷ 103 ∷ 104 ∷ 101 ∷ 102 ∷ 99 ∷ 100 ∷ 97 ∷ 98 ∷ 95 ∷ 96 ∷ 93 ∷ 94 ∷ 91 ∷ 92 ∷ 89 ∷ 90 ∷ 87 ∷ 88 ∷ 85 ∷ 86 ∷ 83 ∷ 84 ∷ 81 ∷ 82 ∷ 79 ∷ 80 ∷ 77 ∷ 78 ∷ 75 ∷ 76 ∷ 73 ∷ 74 ∷ 71 ∷ 72 ∷ 69 ∷ 70 ∷ 67 ∷ 68 ∷ 65 ∷ 66 ∷ 63 ∷ 64 ∷ 61 ∷ 62 ∷ 59 ∷ 60 ∷ 57 ∷ 58 ∷ 55 ∷ 56 ∷ 53 ∷ 54 ∷ 51 ∷ 52 ∷ 49 ∷ 50 ∷ 47 ∷ 48 ∷ 45 ∷ 46 ∷ 43 ∷ 44 ∷ 41 ∷ 42 ∷ 39 ∷ 40 ∷ 37 ∷ 38 ∷ 35 ∷ 36 ∷ 33 ∷ 34 ∷ 31 ∷ 32 ∷ 29 ∷ 30 ∷ 27 ∷ 28 ∷ 25 ∷ 26 ∷ 23 ∷ 24 ∷ 21 ∷ 22 ∷ []) $
+          assigns ! (of-opd ! (unit-lit !)) (from ! (stop !)) (init ! 151 refl (tt, tt)) $
+          returns-within ! Post ee (look ! 151 refl) $
+          forget ! 151 refl $
+          move ! (151 ∷ 152 ∷ 149 ∷ 150 ∷ 147 ∷ 148 ∷ 145 ∷ 146 ∷ 143 ∷ 144 ∷ 141 ∷ 142 ∷ 139 ∷ 140 ∷ 137 ∷ 138 ∷ 135 ∷ 136 ∷ 133 ∷ 134 ∷ 131 ∷ 132 ∷ 129 ∷ 130 ∷ 127 ∷ 128 ∷ 125 ∷ 126 ∷ 123 ∷ 124 ∷ 121 ∷ 122 ∷ 119 ∷ 120 ∷ 117 ∷ 118 ∷ 115 ∷ 116 ∷ 113 ∷ 114 ∷ 111 ∷ 112 ∷ 109 ∷ 110 ∷ 107 ∷ 108 ∷ 105 ∷ 106 ∷ 103 ∷ 104 ∷ 101 ∷ 102 ∷ 99 ∷ 100 ∷ 97 ∷ 98 ∷ 95 ∷ 96 ∷ 93 ∷ 94 ∷ 91 ∷ 92 ∷ 89 ∷ 90 ∷ 87 ∷ 88 ∷ 85 ∷ 86 ∷ 83 ∷ 84 ∷ 81 ∷ 82 ∷ 79 ∷ 80 ∷ 77 ∷ 78 ∷ 75 ∷ 76 ∷ 73 ∷ 74 ∷ 71 ∷ 72 ∷ 69 ∷ 70 ∷ 67 ∷ 68 ∷ 65 ∷ 66 ∷ 63 ∷ 64 ∷ 61 ∷ 62 ∷ 59 ∷ 60 ∷ 57 ∷ 58 ∷ 55 ∷ 56 ∷ 53 ∷ 54 ∷ 51 ∷ 52 ∷ 49 ∷ 50 ∷ 47 ∷ 48 ∷ 45 ∷ 46 ∷ 43 ∷ 44 ∷ 41 ∷ 42 ∷ 39 ∷ 40 ∷ 37 ∷ 38 ∷ 35 ∷ 36 ∷ 33 ∷ 34 ∷ 31 ∷ 32 ∷ 29 ∷ 30 ∷ 27 ∷ 28 ∷ 25 ∷ 26 ∷ 23 ∷ 24 ∷ 21 ∷ 22 ∷ []) $
           freed _ _ (
           keep ! (19 ∷ 20 ∷ 8 ∷ 17 ∷ 18 ∷ 7 ∷ 14 ∷ 15 ∷ 6 ∷ 12 ∷ 13 ∷ 5 ∷ 3 ∷ 4 ∷ 0 ∷ 1 ∷ 2 ∷ 11 ∷ 10 ∷ 9 ∷ []) $
           by ! (exits-1 zs-8 len-9 p-4 w-3 e-6 is-7 held1 p-11 w-10 e-12 is-13))
 
-      from-6-1 : (qq : Kit-Post 𝓤 H) (ee : post 𝓤 H qq returnsᴼ ≡ atReturn 𝓤 H En Post returnsᴼ) (zs-8 : List ℕ) (len-9 : length zs-8 ≡ length h5) (p-4 : SReceived.Received) (w-3 : Val) (e-6 : (p-4 ≡ receivedBy (readOf h5)) × (zs-8 ≡ h5)) (is-7 : Is R-Received p-4 (w-3 ∷ [])) (held1 : Holds (p-4 .barred)) → Sq W (‵ (MutSlice (named 4) κ5 R-u8 .own (x5 zs-8) ((sliceVal (b5, o5) (length h5)) ∷ [])) ∷ ‵ (flft κ5 q5) ∷ ‵ (flft κ8 q8) ∷ ‵ (flft κ4 q4) ∷ ‵ (flft κ3 q3) ∷ ‵ (flft κ2 q2) ∷ ‵ (flft κ1 q1) ∷ ‵ (ftrue) ∷ ‵ (fobs γ8 (R-AnswerWords .coded .code h8)) ∷ ‵ (fbor κ8 (Body (mem R-AnswerWords) b8 o8 γ8)) ∷ ‵ (R-Stamp .own h7 (u7 ∷ [])) ∷ ‵ (R-u64 .own h6 (u6 ∷ [])) ∷ ‵ (fobs γ4 (R-Watch .coded .code h4)) ∷ ‵ (fbor κ4 (Body (mem R-Watch) b4 o4 γ4)) ∷ ‵ (fobs γ3 (codedHoleys R-MasterWords .code (heres R-MasterWords h3))) ∷ ‵ (fbor κ3 (Held R-MasterWords (length h3) b3 o3 γ3)) ∷ ‵ (at-slice R-MasterWords (x3 h3) ((sliceVal (b3, o3) (length h3)) ∷ [])) ∷ ‵ (fobs γ2 (R-Servo .coded .code h2)) ∷ ‵ (fbor κ2 (Body (mem R-Servo) b2 o2 γ2)) ∷ ‵ (fobs γ1 (R-UnitWords .coded .code h1)) ∷ ‵ (fbor κ1 (Body (mem R-UnitWords) b1 o1 γ1)) ∷ ‵ (froom (tyRef erased mut (pointee (R-u8x128 .written))) l61 0) ∷ ‵ (fdies (tyRef erased mut (pointee (R-u8x128 .written))) l61) ∷ ‵ (froom (tyRef erased mut (pointee (R-i32x128 .written))) l60 0) ∷ ‵ (fdies (tyRef erased mut (pointee (R-i32x128 .written))) l60) ∷ ‵ (froom (tyRef erased mut (pointee (R-i64x128 .written))) l59 0) ∷ ‵ (fdies (tyRef erased mut (pointee (R-i64x128 .written))) l59) ∷ ‵ (froom MHead′.mir l58 0) ∷ ‵ (fdies MHead′.mir l58) ∷ ‵ (froom MAnswerWords′.mir l57 0) ∷ ‵ (fdies MAnswerWords′.mir l57) ∷ ‵ (froom MAnswerWords′.mir l56 0) ∷ ‵ (fdies MAnswerWords′.mir l56) ∷ ‵ (froom (tyRef erased mut (pointee (R-u8x128 .written))) l55 0) ∷ ‵ (fdies (tyRef erased mut (pointee (R-u8x128 .written))) l55) ∷ ‵ (froom (tyRef erased mut (pointee (R-i32x128 .written))) l54 0) ∷ ‵ (fdies (tyRef erased mut (pointee (R-i32x128 .written))) l54) ∷ ‵ (froom (tyRef erased mut (pointee (R-i64x128 .written))) l53 0) ∷ ‵ (fdies (tyRef erased mut (pointee (R-i64x128 .written))) l53) ∷ ‵ (froom MHead′.mir l52 0) ∷ ‵ (fdies MHead′.mir l52) ∷ ‵ (froom tyPtr l51 0) ∷ ‵ (fdies tyPtr l51) ∷ ‵ (froom tyPtr l50 0) ∷ ‵ (fdies tyPtr l50) ∷ ‵ (froom (tyInt w64) l49 0) ∷ ‵ (fdies (tyInt w64) l49) ∷ ‵ (froom MAnswerWords′.mir l48 0) ∷ ‵ (fdies MAnswerWords′.mir l48) ∷ ‵ (froom tyBool l47 0) ∷ ‵ (fdies tyBool l47) ∷ ‵ (froom tyPtr l46 0) ∷ ‵ (fdies tyPtr l46) ∷ ‵ (froom tyPtr l45 0) ∷ ‵ (fdies tyPtr l45) ∷ ‵ (froom tyPtr l44 0) ∷ ‵ (fdies tyPtr l44) ∷ ‵ (froom tyPtr l43 0) ∷ ‵ (fdies tyPtr l43) ∷ ‵ (froom MMasterWords′.mir l42 0) ∷ ‵ (fdies MMasterWords′.mir l42) ∷ ‵ (froom tyPtr l41 0) ∷ ‵ (fdies tyPtr l41) ∷ ‵ (froom MAnswerWords′.mir l40 0) ∷ ‵ (fdies MAnswerWords′.mir l40) ∷ ‵ (froom (tyInt w64) l39 0) ∷ ‵ (fdies (tyInt w64) l39) ∷ ‵ (froom MAnswerWords′.mir l38 0) ∷ ‵ (fdies MAnswerWords′.mir l38) ∷ ‵ (froom tyBool l37 0) ∷ ‵ (fdies tyBool l37) ∷ ‵ (froom (sliceTy (tyRef erased mut (tyInt w8))) l36 0) ∷ ‵ (fdies (sliceTy (tyRef erased mut (tyInt w8))) l36) ∷ ‵ (froom (tyRef erased mut (tyInt w8)) l35 0) ∷ ‵ (fdies (tyRef erased mut (tyInt w8)) l35) ∷ ‵ (froom tyBool l34 0) ∷ ‵ (fdies tyBool l34) ∷ ‵ (froom MServo′.mir l33 0) ∷ ‵ (fdies MServo′.mir l33) ∷ ‵ (froom MServo′.mir l32 0) ∷ ‵ (fdies MServo′.mir l32) ∷ ‵ (froom tyBool l31 0) ∷ ‵ (fdies tyBool l31) ∷ ‵ (froom MTold′.mir l30 0) ∷ ‵ (fdies MTold′.mir l30) ∷ ‵ (froom MDelaysWords′.mir l29 0) ∷ ‵ (fdies MDelaysWords′.mir l29) ∷ ‵ (froom MHalvesWords′.mir l28 0) ∷ ‵ (fdies MHalvesWords′.mir l28) ∷ ‵ (froom MEmptied′.mir l27 0) ∷ ‵ (fdies MEmptied′.mir l27) ∷ ‵ (froom tyBool l26 0) ∷ ‵ (fdies tyBool l26) ∷ ‵ (froom MHeld′.mir l25 0) ∷ ‵ (fdies MHeld′.mir l25) ∷ ‵ (froom MMasterWords′.mir l24 0) ∷ ‵ (fdies MMasterWords′.mir l24) ∷ ‵ (froom (tyInt w64) l23 0) ∷ ‵ (fdies (tyInt w64) l23) ∷ ‵ (froom tyBool l22 0) ∷ ‵ (fdies tyBool l22) ∷ ‵ (froom MSeat′.mir l21 0) ∷ ‵ (fdies MSeat′.mir l21) ∷ ‵ (froom MLooked′.mir l20 0) ∷ ‵ (fdies MLooked′.mir l20) ∷ ‵ (froom MLooked′.mir l19 0) ∷ ‵ (fdies MLooked′.mir l19) ∷ ‵ (froom MLooked′.mir l18 0) ∷ ‵ (fdies MLooked′.mir l18) ∷ ‵ (froom MLooked′.mir l17 0) ∷ ‵ (fdies MLooked′.mir l17) ∷ ‵ (froom MLooked′.mir l16 0) ∷ ‵ (fdies MLooked′.mir l16) ∷ ‵ (froom (tyInt w32) l15 0) ∷ ‵ (fdies (tyInt w32) l15) ∷ ‵ (froom tyBool l14 0) ∷ ‵ (fdies tyBool l14) ∷ ‵ (froom MStateWords′.mir l13 0) ∷ ‵ (fdies MStateWords′.mir l13) ∷ ‵ (froom MSettingsWords′.mir l12 0) ∷ ‵ (fdies MSettingsWords′.mir l12) ∷ ‵ (froom MMessage′.mir l11 0) ∷ ‵ (fdies MMessage′.mir l11) ∷ ‵ (froom tyBool l10 0) ∷ ‵ (fdies tyBool l10) ∷ ‵ (fat fullShare MReceived′.mir l9 0 (vstruct (ofList ((parts-Received p-4 w-3 is-7) .pu0 ∷ (parts-Received p-4 w-3 is-7) .pu1 ∷ (parts-Received p-4 w-3 is-7) .pu2 ∷ (parts-Received p-4 w-3 is-7) .pu3 ∷ [])))) ∷ ‵ (fdies MReceived′.mir l9) ∷ ‵ (fat fullShare (tyRef (named 5) mut (pointee (R-AnswerWords .written))) l8 0 (vptr b8 o8)) ∷ ‵ (fdies (tyRef (named 5) mut (pointee (R-AnswerWords .written))) l8) ∷ ‵ (froom MStamp′.mir l7 0) ∷ ‵ (fdies MStamp′.mir l7) ∷ ‵ (froom (tyInt w64) l6 0) ∷ ‵ (fdies (tyInt w64) l6) ∷ ‵ (froom (sliceTy (tyRef (named 4) mut (tyInt w8))) l5 0) ∷ ‵ (fdies (sliceTy (tyRef (named 4) mut (tyInt w8))) l5) ∷ ‵ (froom (tyRef (named 3) mut (pointee (R-Watch .written))) l4 0) ∷ ‵ (fdies (tyRef (named 3) mut (pointee (R-Watch .written))) l4) ∷ ‵ (froom (sliceTy (tyRef (named 2) mut (pointee (R-MasterWords .written)))) l3 0) ∷ ‵ (fdies (sliceTy (tyRef (named 2) mut (pointee (R-MasterWords .written)))) l3) ∷ ‵ (froom (tyRef (named 1) mut (pointee (R-Servo .written))) l2 0) ∷ ‵ (fdies (tyRef (named 1) mut (pointee (R-Servo .written))) l2) ∷ ‵ (froom (tyRef (named 0) mut (pointee (R-UnitWords .written))) l1 0) ∷ ‵ (fdies (tyRef (named 0) mut (pointee (R-UnitWords .written))) l1) ∷ ‵ (froom tyUnit l0 0) ∷ ‵ (fdies tyUnit l0) ∷ []) (runs C Λ En i-6-1 qq)
+      from-6-1 : (qq : Kit-Post 𝓤 H) (ee : post 𝓤 H qq returnsᴼ ≡ atReturn 𝓤 H En Post returnsᴼ) (zs-8 : List ℕ) (len-9 : length zs-8 ≡ length h5) (p-4 : SReceived.Received) (w-3 : Val) (e-6 : (p-4 ≡ receivedBy (readOf h5)) × (zs-8 ≡ h5)) (is-7 : Is R-Received p-4 (w-3 ∷ [])) (held1 : Holds (p-4 .barred)) → Sq W (‵ (MutSlice (named 4) κ5 R-u8 .own (x5 zs-8) ((sliceVal (b5, o5) (length h5)) ∷ [])) ∷ ‵ (flft κ5 q5) ∷ ‵ (flft κ8 q8) ∷ ‵ (flft κ4 q4) ∷ ‵ (flft κ3 q3) ∷ ‵ (flft κ2 q2) ∷ ‵ (flft κ1 q1) ∷ ‵ (ftrue) ∷ ‵ (fobs γ8 (R-AnswerWords .coded .code h8)) ∷ ‵ (fbor κ8 (Body (mem R-AnswerWords) b8 o8 γ8)) ∷ ‵ (R-Stamp .own h7 (u7 ∷ [])) ∷ ‵ (R-u64 .own h6 (u6 ∷ [])) ∷ ‵ (fobs γ4 (R-Watch .coded .code h4)) ∷ ‵ (fbor κ4 (Body (mem R-Watch) b4 o4 γ4)) ∷ ‵ (fobs γ3 (codedHoleys R-MasterWords .code (heres R-MasterWords h3))) ∷ ‵ (fbor κ3 (Held R-MasterWords (length h3) b3 o3 γ3)) ∷ ‵ (at-slice R-MasterWords (x3 h3) ((sliceVal (b3, o3) (length h3)) ∷ [])) ∷ ‵ (fobs γ2 (R-Servo .coded .code h2)) ∷ ‵ (fbor κ2 (Body (mem R-Servo) b2 o2 γ2)) ∷ ‵ (fobs γ1 (R-UnitWords .coded .code h1)) ∷ ‵ (fbor κ1 (Body (mem R-UnitWords) b1 o1 γ1)) ∷ ‵ (froom (tyRef erased mut (pointee (R-u8x128 .written))) l65 0) ∷ ‵ (fdies (tyRef erased mut (pointee (R-u8x128 .written))) l65) ∷ ‵ (froom (tyRef erased mut (pointee (R-i32x128 .written))) l64 0) ∷ ‵ (fdies (tyRef erased mut (pointee (R-i32x128 .written))) l64) ∷ ‵ (froom (tyRef erased mut (pointee (R-i64x128 .written))) l63 0) ∷ ‵ (fdies (tyRef erased mut (pointee (R-i64x128 .written))) l63) ∷ ‵ (froom MHead′.mir l62 0) ∷ ‵ (fdies MHead′.mir l62) ∷ ‵ (froom MAnswerWords′.mir l61 0) ∷ ‵ (fdies MAnswerWords′.mir l61) ∷ ‵ (froom MAnswerWords′.mir l60 0) ∷ ‵ (fdies MAnswerWords′.mir l60) ∷ ‵ (froom (tyRef erased mut (pointee (R-u8x128 .written))) l59 0) ∷ ‵ (fdies (tyRef erased mut (pointee (R-u8x128 .written))) l59) ∷ ‵ (froom (tyRef erased mut (pointee (R-i32x128 .written))) l58 0) ∷ ‵ (fdies (tyRef erased mut (pointee (R-i32x128 .written))) l58) ∷ ‵ (froom (tyRef erased mut (pointee (R-i64x128 .written))) l57 0) ∷ ‵ (fdies (tyRef erased mut (pointee (R-i64x128 .written))) l57) ∷ ‵ (froom MHead′.mir l56 0) ∷ ‵ (fdies MHead′.mir l56) ∷ ‵ (froom tyPtr l55 0) ∷ ‵ (fdies tyPtr l55) ∷ ‵ (froom tyPtr l54 0) ∷ ‵ (fdies tyPtr l54) ∷ ‵ (froom (tyInt w64) l53 0) ∷ ‵ (fdies (tyInt w64) l53) ∷ ‵ (froom MAnswerWords′.mir l52 0) ∷ ‵ (fdies MAnswerWords′.mir l52) ∷ ‵ (froom tyBool l51 0) ∷ ‵ (fdies tyBool l51) ∷ ‵ (froom tyPtr l50 0) ∷ ‵ (fdies tyPtr l50) ∷ ‵ (froom tyPtr l49 0) ∷ ‵ (fdies tyPtr l49) ∷ ‵ (froom tyPtr l48 0) ∷ ‵ (fdies tyPtr l48) ∷ ‵ (froom tyPtr l47 0) ∷ ‵ (fdies tyPtr l47) ∷ ‵ (froom MMasterWords′.mir l46 0) ∷ ‵ (fdies MMasterWords′.mir l46) ∷ ‵ (froom tyPtr l45 0) ∷ ‵ (fdies tyPtr l45) ∷ ‵ (froom MAnswerWords′.mir l44 0) ∷ ‵ (fdies MAnswerWords′.mir l44) ∷ ‵ (froom (tyInt w64) l43 0) ∷ ‵ (fdies (tyInt w64) l43) ∷ ‵ (froom MAnswerWords′.mir l42 0) ∷ ‵ (fdies MAnswerWords′.mir l42) ∷ ‵ (froom tyBool l41 0) ∷ ‵ (fdies tyBool l41) ∷ ‵ (froom (sliceTy (tyRef erased mut (tyInt w8))) l40 0) ∷ ‵ (fdies (sliceTy (tyRef erased mut (tyInt w8))) l40) ∷ ‵ (froom (tyRef erased mut (tyInt w8)) l39 0) ∷ ‵ (fdies (tyRef erased mut (tyInt w8)) l39) ∷ ‵ (froom (tyInt w16) l38 0) ∷ ‵ (fdies (tyInt w16) l38) ∷ ‵ (froom (tyInt w8) l37 0) ∷ ‵ (fdies (tyInt w8) l37) ∷ ‵ (froom MServo′.mir l36 0) ∷ ‵ (fdies MServo′.mir l36) ∷ ‵ (froom tyBool l35 0) ∷ ‵ (fdies tyBool l35) ∷ ‵ (froom tyBool l34 0) ∷ ‵ (fdies tyBool l34) ∷ ‵ (froom MAccepted′.mir l33 0) ∷ ‵ (fdies MAccepted′.mir l33) ∷ ‵ (froom MServo′.mir l32 0) ∷ ‵ (fdies MServo′.mir l32) ∷ ‵ (froom tyBool l31 0) ∷ ‵ (fdies tyBool l31) ∷ ‵ (froom MTold′.mir l30 0) ∷ ‵ (fdies MTold′.mir l30) ∷ ‵ (froom MDelaysWords′.mir l29 0) ∷ ‵ (fdies MDelaysWords′.mir l29) ∷ ‵ (froom MHalvesWords′.mir l28 0) ∷ ‵ (fdies MHalvesWords′.mir l28) ∷ ‵ (froom MEmptied′.mir l27 0) ∷ ‵ (fdies MEmptied′.mir l27) ∷ ‵ (froom tyBool l26 0) ∷ ‵ (fdies tyBool l26) ∷ ‵ (froom MHeld′.mir l25 0) ∷ ‵ (fdies MHeld′.mir l25) ∷ ‵ (froom MMasterWords′.mir l24 0) ∷ ‵ (fdies MMasterWords′.mir l24) ∷ ‵ (froom (tyInt w64) l23 0) ∷ ‵ (fdies (tyInt w64) l23) ∷ ‵ (froom tyBool l22 0) ∷ ‵ (fdies tyBool l22) ∷ ‵ (froom MSeat′.mir l21 0) ∷ ‵ (fdies MSeat′.mir l21) ∷ ‵ (froom MLooked′.mir l20 0) ∷ ‵ (fdies MLooked′.mir l20) ∷ ‵ (froom MLooked′.mir l19 0) ∷ ‵ (fdies MLooked′.mir l19) ∷ ‵ (froom MLooked′.mir l18 0) ∷ ‵ (fdies MLooked′.mir l18) ∷ ‵ (froom MLooked′.mir l17 0) ∷ ‵ (fdies MLooked′.mir l17) ∷ ‵ (froom MLooked′.mir l16 0) ∷ ‵ (fdies MLooked′.mir l16) ∷ ‵ (froom (tyInt w32) l15 0) ∷ ‵ (fdies (tyInt w32) l15) ∷ ‵ (froom tyBool l14 0) ∷ ‵ (fdies tyBool l14) ∷ ‵ (froom MStateWords′.mir l13 0) ∷ ‵ (fdies MStateWords′.mir l13) ∷ ‵ (froom MSettingsWords′.mir l12 0) ∷ ‵ (fdies MSettingsWords′.mir l12) ∷ ‵ (froom MMessage′.mir l11 0) ∷ ‵ (fdies MMessage′.mir l11) ∷ ‵ (froom tyBool l10 0) ∷ ‵ (fdies tyBool l10) ∷ ‵ (fat fullShare MReceived′.mir l9 0 (vstruct (ofList ((parts-Received p-4 w-3 is-7) .pu0 ∷ (parts-Received p-4 w-3 is-7) .pu1 ∷ (parts-Received p-4 w-3 is-7) .pu2 ∷ (parts-Received p-4 w-3 is-7) .pu3 ∷ [])))) ∷ ‵ (fdies MReceived′.mir l9) ∷ ‵ (fat fullShare (tyRef (named 5) mut (pointee (R-AnswerWords .written))) l8 0 (vptr b8 o8)) ∷ ‵ (fdies (tyRef (named 5) mut (pointee (R-AnswerWords .written))) l8) ∷ ‵ (froom MStamp′.mir l7 0) ∷ ‵ (fdies MStamp′.mir l7) ∷ ‵ (froom (tyInt w64) l6 0) ∷ ‵ (fdies (tyInt w64) l6) ∷ ‵ (froom (sliceTy (tyRef (named 4) mut (tyInt w8))) l5 0) ∷ ‵ (fdies (sliceTy (tyRef (named 4) mut (tyInt w8))) l5) ∷ ‵ (froom (tyRef (named 3) mut (pointee (R-Watch .written))) l4 0) ∷ ‵ (fdies (tyRef (named 3) mut (pointee (R-Watch .written))) l4) ∷ ‵ (froom (sliceTy (tyRef (named 2) mut (pointee (R-MasterWords .written)))) l3 0) ∷ ‵ (fdies (sliceTy (tyRef (named 2) mut (pointee (R-MasterWords .written)))) l3) ∷ ‵ (froom (tyRef (named 1) mut (pointee (R-Servo .written))) l2 0) ∷ ‵ (fdies (tyRef (named 1) mut (pointee (R-Servo .written))) l2) ∷ ‵ (froom (tyRef (named 0) mut (pointee (R-UnitWords .written))) l1 0) ∷ ‵ (fdies (tyRef (named 0) mut (pointee (R-UnitWords .written))) l1) ∷ ‵ (froom tyUnit l0 0) ∷ ‵ (fdies tyUnit l0) ∷ []) (runs C Λ En i-6-1 qq)
       from-6-1 qq ee zs-8 len-9 p-4 w-3 e-6 is-7 held1 =
-          rewrite ! 125 (λ (u : Val). ‵ (fat fullShare MReceived′.mir l9 0 u)) (sym (parts-Received p-4 w-3 is-7 .whole-is)) refl $
+          rewrite ! 133 (λ (u : Val). ‵ (fat fullShare MReceived′.mir l9 0 u)) (sym (parts-Received p-4 w-3 is-7 .whole-is)) refl $
           use0 W (raw (C-refused 𝓤 H A at-mem run .pre (to-refused p-4 w-3))) (goes-refused p-4 w-3 is-7) $
-          calls-at ! fm (C-refused 𝓤 H A at-mem run) known-refused (to-refused p-4 w-3) (and-then ! (load ! (from ! (stop !)) (look ! 126 refl)) (no-more !)) (λ w-10.
+          calls-at ! fm (C-refused 𝓤 H A at-mem run) known-refused (to-refused p-4 w-3) (and-then ! (load ! (from ! (stop !)) (look ! 134 refl)) (no-more !)) (λ w-10.
           use1 W (later (some (λ (p-11 : SAnswerWords.AnswerWords). (‵ ftrue ⊛ ‵ (R-AnswerWords .own p-11 (w-10 ∷ []))) ⊛ raw (ensured 𝓤 H A f-refused.ended (f-refused.clauses 𝓤 H A at-mem run) tt (p-4, tt) tt p-11)))) (id⊢ 𝓤 _) $ await ! tt $
           pick ! (λ p-11.
           split ! $
@@ -1879,25 +1879,25 @@ module _ {M : Type 1} (𝓤 : URA M) (H : Heap 𝓤) (A : Atoms 𝓤) (W : Given
           peeks ! R-AnswerWords (Is R-AnswerWords) (shows 𝓤 H A R-AnswerWords) h8 vs-14 (λ g-15.
           rewrite ! 0 (λ (us : List Val). ‵ (R-AnswerWords .own h8 us)) (lone-AnswerWords h8 vs-14 g-15) refl $
           rewrite ! 1 (λ (us : List Val). ‵ (cellAt fullShare (R-AnswerWords .mir) us b8 o8)) (lone-AnswerWords h8 vs-14 g-15) refl $
-          assigns ! (of-opd ! (load ! (from ! (stop !)) (look ! 69 refl))) (from ! (hop ! (look ! 129 refl) (stop !))) (store-raw ! 1 refl (lawful-AnswerWords 𝓤 H A W .typed p-11 _ is-13 .0)) $
+          assigns ! (of-opd ! (load ! (from ! (stop !)) (look ! 69 refl))) (from ! (hop ! (look ! 137 refl) (stop !))) (store-raw ! 1 refl (lawful-AnswerWords 𝓤 H A W .typed p-11 _ is-13 .0)) $
           drop ! $
           owned ! R-AnswerWords (Is R-AnswerWords) (makes-AnswerWords 𝓤 H A W) p-11 _ is-13 $
           move ! (1 ∷ 0 ∷ 2 ∷ 3 ∷ 4 ∷ []) $
           closes ! tt R-AnswerWords p-11 (w-10 ∷ []) b8 o8 $
-          forget ! 127 refl $ forget ! 125 refl $ forget ! 67 refl $
+          forget ! 135 refl $ forget ! 133 refl $ forget ! 67 refl $
           from-6-3 qq ee zs-8 len-9 p-4 w-3 e-6 is-7 held1 p-11 w-10 e-12 is-13))))))
 
-      from-9-3 : (qq : Kit-Post 𝓤 H) (ee : post 𝓤 H qq returnsᴼ ≡ atReturn 𝓤 H En Post returnsᴼ) (zs-8 : List ℕ) (len-9 : length zs-8 ≡ length h5) (p-4 : SReceived.Received) (w-3 : Val) (e-6 : (p-4 ≡ receivedBy (readOf h5)) × (zs-8 ≡ h5)) (is-7 : Is R-Received p-4 (w-3 ∷ [])) (left1 : Holds (not (p-4 .barred))) (bad : Holds (not (eqb (length h3) 5))) (p-17 : SAnswerWords.AnswerWords) (w-16 : Val) (e-18 : p-17 ≡ untabledOf) (is-19 : Is R-AnswerWords p-17 (w-16 ∷ [])) → Sq W (‵ (fobs γ8 (R-AnswerWords .coded .code p-17)) ∷ ‵ (fbor κ8 (Body (mem R-AnswerWords) b8 o8 γ8)) ∷ ‵ (flft κ8 q8) ∷ ‵ (MutSlice (named 4) κ5 R-u8 .own (x5 zs-8) ((sliceVal (b5, o5) (length h5)) ∷ [])) ∷ ‵ (flft κ5 q5) ∷ ‵ (flft κ4 q4) ∷ ‵ (flft κ3 q3) ∷ ‵ (flft κ2 q2) ∷ ‵ (flft κ1 q1) ∷ ‵ (ftrue) ∷ ‵ (R-Stamp .own h7 (u7 ∷ [])) ∷ ‵ (R-u64 .own h6 (u6 ∷ [])) ∷ ‵ (fobs γ4 (R-Watch .coded .code h4)) ∷ ‵ (fbor κ4 (Body (mem R-Watch) b4 o4 γ4)) ∷ ‵ (fobs γ3 (codedHoleys R-MasterWords .code (heres R-MasterWords h3))) ∷ ‵ (fbor κ3 (Held R-MasterWords (length h3) b3 o3 γ3)) ∷ ‵ (at-slice R-MasterWords (x3 h3) ((sliceVal (b3, o3) (length h3)) ∷ [])) ∷ ‵ (fobs γ2 (R-Servo .coded .code h2)) ∷ ‵ (fbor κ2 (Body (mem R-Servo) b2 o2 γ2)) ∷ ‵ (fobs γ1 (R-UnitWords .coded .code h1)) ∷ ‵ (fbor κ1 (Body (mem R-UnitWords) b1 o1 γ1)) ∷ ‵ (froom (tyRef erased mut (pointee (R-u8x128 .written))) l61 0) ∷ ‵ (fdies (tyRef erased mut (pointee (R-u8x128 .written))) l61) ∷ ‵ (froom (tyRef erased mut (pointee (R-i32x128 .written))) l60 0) ∷ ‵ (fdies (tyRef erased mut (pointee (R-i32x128 .written))) l60) ∷ ‵ (froom (tyRef erased mut (pointee (R-i64x128 .written))) l59 0) ∷ ‵ (fdies (tyRef erased mut (pointee (R-i64x128 .written))) l59) ∷ ‵ (froom MHead′.mir l58 0) ∷ ‵ (fdies MHead′.mir l58) ∷ ‵ (froom MAnswerWords′.mir l57 0) ∷ ‵ (fdies MAnswerWords′.mir l57) ∷ ‵ (froom MAnswerWords′.mir l56 0) ∷ ‵ (fdies MAnswerWords′.mir l56) ∷ ‵ (froom (tyRef erased mut (pointee (R-u8x128 .written))) l55 0) ∷ ‵ (fdies (tyRef erased mut (pointee (R-u8x128 .written))) l55) ∷ ‵ (froom (tyRef erased mut (pointee (R-i32x128 .written))) l54 0) ∷ ‵ (fdies (tyRef erased mut (pointee (R-i32x128 .written))) l54) ∷ ‵ (froom (tyRef erased mut (pointee (R-i64x128 .written))) l53 0) ∷ ‵ (fdies (tyRef erased mut (pointee (R-i64x128 .written))) l53) ∷ ‵ (froom MHead′.mir l52 0) ∷ ‵ (fdies MHead′.mir l52) ∷ ‵ (froom tyPtr l51 0) ∷ ‵ (fdies tyPtr l51) ∷ ‵ (froom tyPtr l50 0) ∷ ‵ (fdies tyPtr l50) ∷ ‵ (froom (tyInt w64) l49 0) ∷ ‵ (fdies (tyInt w64) l49) ∷ ‵ (froom MAnswerWords′.mir l48 0) ∷ ‵ (fdies MAnswerWords′.mir l48) ∷ ‵ (froom tyBool l47 0) ∷ ‵ (fdies tyBool l47) ∷ ‵ (froom tyPtr l46 0) ∷ ‵ (fdies tyPtr l46) ∷ ‵ (froom tyPtr l45 0) ∷ ‵ (fdies tyPtr l45) ∷ ‵ (froom tyPtr l44 0) ∷ ‵ (fdies tyPtr l44) ∷ ‵ (froom tyPtr l43 0) ∷ ‵ (fdies tyPtr l43) ∷ ‵ (froom MMasterWords′.mir l42 0) ∷ ‵ (fdies MMasterWords′.mir l42) ∷ ‵ (froom tyPtr l41 0) ∷ ‵ (fdies tyPtr l41) ∷ ‵ (froom MAnswerWords′.mir l40 0) ∷ ‵ (fdies MAnswerWords′.mir l40) ∷ ‵ (froom (tyInt w64) l39 0) ∷ ‵ (fdies (tyInt w64) l39) ∷ ‵ (froom MAnswerWords′.mir l38 0) ∷ ‵ (fdies MAnswerWords′.mir l38) ∷ ‵ (froom tyBool l37 0) ∷ ‵ (fdies tyBool l37) ∷ ‵ (froom (sliceTy (tyRef erased mut (tyInt w8))) l36 0) ∷ ‵ (fdies (sliceTy (tyRef erased mut (tyInt w8))) l36) ∷ ‵ (froom (tyRef erased mut (tyInt w8)) l35 0) ∷ ‵ (fdies (tyRef erased mut (tyInt w8)) l35) ∷ ‵ (froom tyBool l34 0) ∷ ‵ (fdies tyBool l34) ∷ ‵ (froom MServo′.mir l33 0) ∷ ‵ (fdies MServo′.mir l33) ∷ ‵ (froom MServo′.mir l32 0) ∷ ‵ (fdies MServo′.mir l32) ∷ ‵ (froom tyBool l31 0) ∷ ‵ (fdies tyBool l31) ∷ ‵ (froom MTold′.mir l30 0) ∷ ‵ (fdies MTold′.mir l30) ∷ ‵ (froom MDelaysWords′.mir l29 0) ∷ ‵ (fdies MDelaysWords′.mir l29) ∷ ‵ (froom MHalvesWords′.mir l28 0) ∷ ‵ (fdies MHalvesWords′.mir l28) ∷ ‵ (froom MEmptied′.mir l27 0) ∷ ‵ (fdies MEmptied′.mir l27) ∷ ‵ (froom tyBool l26 0) ∷ ‵ (fdies tyBool l26) ∷ ‵ (froom MHeld′.mir l25 0) ∷ ‵ (fdies MHeld′.mir l25) ∷ ‵ (froom MMasterWords′.mir l24 0) ∷ ‵ (fdies MMasterWords′.mir l24) ∷ ‵ (froom (tyInt w64) l23 0) ∷ ‵ (fdies (tyInt w64) l23) ∷ ‵ (froom tyBool l22 0) ∷ ‵ (fdies tyBool l22) ∷ ‵ (froom MSeat′.mir l21 0) ∷ ‵ (fdies MSeat′.mir l21) ∷ ‵ (froom MLooked′.mir l20 0) ∷ ‵ (fdies MLooked′.mir l20) ∷ ‵ (froom MLooked′.mir l19 0) ∷ ‵ (fdies MLooked′.mir l19) ∷ ‵ (froom MLooked′.mir l18 0) ∷ ‵ (fdies MLooked′.mir l18) ∷ ‵ (froom MLooked′.mir l17 0) ∷ ‵ (fdies MLooked′.mir l17) ∷ ‵ (froom MLooked′.mir l16 0) ∷ ‵ (fdies MLooked′.mir l16) ∷ ‵ (froom (tyInt w32) l15 0) ∷ ‵ (fdies (tyInt w32) l15) ∷ ‵ (froom tyBool l14 0) ∷ ‵ (fdies tyBool l14) ∷ ‵ (froom MStateWords′.mir l13 0) ∷ ‵ (fdies MStateWords′.mir l13) ∷ ‵ (froom MSettingsWords′.mir l12 0) ∷ ‵ (fdies MSettingsWords′.mir l12) ∷ ‵ (froom MMessage′.mir l11 0) ∷ ‵ (fdies MMessage′.mir l11) ∷ ‵ (froom tyBool l10 0) ∷ ‵ (fdies tyBool l10) ∷ ‵ (froom MReceived′.mir l9 0) ∷ ‵ (fdies MReceived′.mir l9) ∷ ‵ (froom (tyRef (named 5) mut (pointee (R-AnswerWords .written))) l8 0) ∷ ‵ (fdies (tyRef (named 5) mut (pointee (R-AnswerWords .written))) l8) ∷ ‵ (froom MStamp′.mir l7 0) ∷ ‵ (fdies MStamp′.mir l7) ∷ ‵ (froom (tyInt w64) l6 0) ∷ ‵ (fdies (tyInt w64) l6) ∷ ‵ (froom (sliceTy (tyRef (named 4) mut (tyInt w8))) l5 0) ∷ ‵ (fdies (sliceTy (tyRef (named 4) mut (tyInt w8))) l5) ∷ ‵ (froom (tyRef (named 3) mut (pointee (R-Watch .written))) l4 0) ∷ ‵ (fdies (tyRef (named 3) mut (pointee (R-Watch .written))) l4) ∷ ‵ (froom (sliceTy (tyRef (named 2) mut (pointee (R-MasterWords .written)))) l3 0) ∷ ‵ (fdies (sliceTy (tyRef (named 2) mut (pointee (R-MasterWords .written)))) l3) ∷ ‵ (froom (tyRef (named 1) mut (pointee (R-Servo .written))) l2 0) ∷ ‵ (fdies (tyRef (named 1) mut (pointee (R-Servo .written))) l2) ∷ ‵ (froom (tyRef (named 0) mut (pointee (R-UnitWords .written))) l1 0) ∷ ‵ (fdies (tyRef (named 0) mut (pointee (R-UnitWords .written))) l1) ∷ ‵ (froom tyUnit l0 0) ∷ ‵ (fdies tyUnit l0) ∷ []) (runs C Λ En i-9-3 qq)
+      from-9-3 : (qq : Kit-Post 𝓤 H) (ee : post 𝓤 H qq returnsᴼ ≡ atReturn 𝓤 H En Post returnsᴼ) (zs-8 : List ℕ) (len-9 : length zs-8 ≡ length h5) (p-4 : SReceived.Received) (w-3 : Val) (e-6 : (p-4 ≡ receivedBy (readOf h5)) × (zs-8 ≡ h5)) (is-7 : Is R-Received p-4 (w-3 ∷ [])) (left1 : Holds (not (p-4 .barred))) (bad : Holds (not (eqb (length h3) 5))) (p-17 : SAnswerWords.AnswerWords) (w-16 : Val) (e-18 : p-17 ≡ untabledOf) (is-19 : Is R-AnswerWords p-17 (w-16 ∷ [])) → Sq W (‵ (fobs γ8 (R-AnswerWords .coded .code p-17)) ∷ ‵ (fbor κ8 (Body (mem R-AnswerWords) b8 o8 γ8)) ∷ ‵ (flft κ8 q8) ∷ ‵ (MutSlice (named 4) κ5 R-u8 .own (x5 zs-8) ((sliceVal (b5, o5) (length h5)) ∷ [])) ∷ ‵ (flft κ5 q5) ∷ ‵ (flft κ4 q4) ∷ ‵ (flft κ3 q3) ∷ ‵ (flft κ2 q2) ∷ ‵ (flft κ1 q1) ∷ ‵ (ftrue) ∷ ‵ (R-Stamp .own h7 (u7 ∷ [])) ∷ ‵ (R-u64 .own h6 (u6 ∷ [])) ∷ ‵ (fobs γ4 (R-Watch .coded .code h4)) ∷ ‵ (fbor κ4 (Body (mem R-Watch) b4 o4 γ4)) ∷ ‵ (fobs γ3 (codedHoleys R-MasterWords .code (heres R-MasterWords h3))) ∷ ‵ (fbor κ3 (Held R-MasterWords (length h3) b3 o3 γ3)) ∷ ‵ (at-slice R-MasterWords (x3 h3) ((sliceVal (b3, o3) (length h3)) ∷ [])) ∷ ‵ (fobs γ2 (R-Servo .coded .code h2)) ∷ ‵ (fbor κ2 (Body (mem R-Servo) b2 o2 γ2)) ∷ ‵ (fobs γ1 (R-UnitWords .coded .code h1)) ∷ ‵ (fbor κ1 (Body (mem R-UnitWords) b1 o1 γ1)) ∷ ‵ (froom (tyRef erased mut (pointee (R-u8x128 .written))) l65 0) ∷ ‵ (fdies (tyRef erased mut (pointee (R-u8x128 .written))) l65) ∷ ‵ (froom (tyRef erased mut (pointee (R-i32x128 .written))) l64 0) ∷ ‵ (fdies (tyRef erased mut (pointee (R-i32x128 .written))) l64) ∷ ‵ (froom (tyRef erased mut (pointee (R-i64x128 .written))) l63 0) ∷ ‵ (fdies (tyRef erased mut (pointee (R-i64x128 .written))) l63) ∷ ‵ (froom MHead′.mir l62 0) ∷ ‵ (fdies MHead′.mir l62) ∷ ‵ (froom MAnswerWords′.mir l61 0) ∷ ‵ (fdies MAnswerWords′.mir l61) ∷ ‵ (froom MAnswerWords′.mir l60 0) ∷ ‵ (fdies MAnswerWords′.mir l60) ∷ ‵ (froom (tyRef erased mut (pointee (R-u8x128 .written))) l59 0) ∷ ‵ (fdies (tyRef erased mut (pointee (R-u8x128 .written))) l59) ∷ ‵ (froom (tyRef erased mut (pointee (R-i32x128 .written))) l58 0) ∷ ‵ (fdies (tyRef erased mut (pointee (R-i32x128 .written))) l58) ∷ ‵ (froom (tyRef erased mut (pointee (R-i64x128 .written))) l57 0) ∷ ‵ (fdies (tyRef erased mut (pointee (R-i64x128 .written))) l57) ∷ ‵ (froom MHead′.mir l56 0) ∷ ‵ (fdies MHead′.mir l56) ∷ ‵ (froom tyPtr l55 0) ∷ ‵ (fdies tyPtr l55) ∷ ‵ (froom tyPtr l54 0) ∷ ‵ (fdies tyPtr l54) ∷ ‵ (froom (tyInt w64) l53 0) ∷ ‵ (fdies (tyInt w64) l53) ∷ ‵ (froom MAnswerWords′.mir l52 0) ∷ ‵ (fdies MAnswerWords′.mir l52) ∷ ‵ (froom tyBool l51 0) ∷ ‵ (fdies tyBool l51) ∷ ‵ (froom tyPtr l50 0) ∷ ‵ (fdies tyPtr l50) ∷ ‵ (froom tyPtr l49 0) ∷ ‵ (fdies tyPtr l49) ∷ ‵ (froom tyPtr l48 0) ∷ ‵ (fdies tyPtr l48) ∷ ‵ (froom tyPtr l47 0) ∷ ‵ (fdies tyPtr l47) ∷ ‵ (froom MMasterWords′.mir l46 0) ∷ ‵ (fdies MMasterWords′.mir l46) ∷ ‵ (froom tyPtr l45 0) ∷ ‵ (fdies tyPtr l45) ∷ ‵ (froom MAnswerWords′.mir l44 0) ∷ ‵ (fdies MAnswerWords′.mir l44) ∷ ‵ (froom (tyInt w64) l43 0) ∷ ‵ (fdies (tyInt w64) l43) ∷ ‵ (froom MAnswerWords′.mir l42 0) ∷ ‵ (fdies MAnswerWords′.mir l42) ∷ ‵ (froom tyBool l41 0) ∷ ‵ (fdies tyBool l41) ∷ ‵ (froom (sliceTy (tyRef erased mut (tyInt w8))) l40 0) ∷ ‵ (fdies (sliceTy (tyRef erased mut (tyInt w8))) l40) ∷ ‵ (froom (tyRef erased mut (tyInt w8)) l39 0) ∷ ‵ (fdies (tyRef erased mut (tyInt w8)) l39) ∷ ‵ (froom (tyInt w16) l38 0) ∷ ‵ (fdies (tyInt w16) l38) ∷ ‵ (froom (tyInt w8) l37 0) ∷ ‵ (fdies (tyInt w8) l37) ∷ ‵ (froom MServo′.mir l36 0) ∷ ‵ (fdies MServo′.mir l36) ∷ ‵ (froom tyBool l35 0) ∷ ‵ (fdies tyBool l35) ∷ ‵ (froom tyBool l34 0) ∷ ‵ (fdies tyBool l34) ∷ ‵ (froom MAccepted′.mir l33 0) ∷ ‵ (fdies MAccepted′.mir l33) ∷ ‵ (froom MServo′.mir l32 0) ∷ ‵ (fdies MServo′.mir l32) ∷ ‵ (froom tyBool l31 0) ∷ ‵ (fdies tyBool l31) ∷ ‵ (froom MTold′.mir l30 0) ∷ ‵ (fdies MTold′.mir l30) ∷ ‵ (froom MDelaysWords′.mir l29 0) ∷ ‵ (fdies MDelaysWords′.mir l29) ∷ ‵ (froom MHalvesWords′.mir l28 0) ∷ ‵ (fdies MHalvesWords′.mir l28) ∷ ‵ (froom MEmptied′.mir l27 0) ∷ ‵ (fdies MEmptied′.mir l27) ∷ ‵ (froom tyBool l26 0) ∷ ‵ (fdies tyBool l26) ∷ ‵ (froom MHeld′.mir l25 0) ∷ ‵ (fdies MHeld′.mir l25) ∷ ‵ (froom MMasterWords′.mir l24 0) ∷ ‵ (fdies MMasterWords′.mir l24) ∷ ‵ (froom (tyInt w64) l23 0) ∷ ‵ (fdies (tyInt w64) l23) ∷ ‵ (froom tyBool l22 0) ∷ ‵ (fdies tyBool l22) ∷ ‵ (froom MSeat′.mir l21 0) ∷ ‵ (fdies MSeat′.mir l21) ∷ ‵ (froom MLooked′.mir l20 0) ∷ ‵ (fdies MLooked′.mir l20) ∷ ‵ (froom MLooked′.mir l19 0) ∷ ‵ (fdies MLooked′.mir l19) ∷ ‵ (froom MLooked′.mir l18 0) ∷ ‵ (fdies MLooked′.mir l18) ∷ ‵ (froom MLooked′.mir l17 0) ∷ ‵ (fdies MLooked′.mir l17) ∷ ‵ (froom MLooked′.mir l16 0) ∷ ‵ (fdies MLooked′.mir l16) ∷ ‵ (froom (tyInt w32) l15 0) ∷ ‵ (fdies (tyInt w32) l15) ∷ ‵ (froom tyBool l14 0) ∷ ‵ (fdies tyBool l14) ∷ ‵ (froom MStateWords′.mir l13 0) ∷ ‵ (fdies MStateWords′.mir l13) ∷ ‵ (froom MSettingsWords′.mir l12 0) ∷ ‵ (fdies MSettingsWords′.mir l12) ∷ ‵ (froom MMessage′.mir l11 0) ∷ ‵ (fdies MMessage′.mir l11) ∷ ‵ (froom tyBool l10 0) ∷ ‵ (fdies tyBool l10) ∷ ‵ (froom MReceived′.mir l9 0) ∷ ‵ (fdies MReceived′.mir l9) ∷ ‵ (froom (tyRef (named 5) mut (pointee (R-AnswerWords .written))) l8 0) ∷ ‵ (fdies (tyRef (named 5) mut (pointee (R-AnswerWords .written))) l8) ∷ ‵ (froom MStamp′.mir l7 0) ∷ ‵ (fdies MStamp′.mir l7) ∷ ‵ (froom (tyInt w64) l6 0) ∷ ‵ (fdies (tyInt w64) l6) ∷ ‵ (froom (sliceTy (tyRef (named 4) mut (tyInt w8))) l5 0) ∷ ‵ (fdies (sliceTy (tyRef (named 4) mut (tyInt w8))) l5) ∷ ‵ (froom (tyRef (named 3) mut (pointee (R-Watch .written))) l4 0) ∷ ‵ (fdies (tyRef (named 3) mut (pointee (R-Watch .written))) l4) ∷ ‵ (froom (sliceTy (tyRef (named 2) mut (pointee (R-MasterWords .written)))) l3 0) ∷ ‵ (fdies (sliceTy (tyRef (named 2) mut (pointee (R-MasterWords .written)))) l3) ∷ ‵ (froom (tyRef (named 1) mut (pointee (R-Servo .written))) l2 0) ∷ ‵ (fdies (tyRef (named 1) mut (pointee (R-Servo .written))) l2) ∷ ‵ (froom (tyRef (named 0) mut (pointee (R-UnitWords .written))) l1 0) ∷ ‵ (fdies (tyRef (named 0) mut (pointee (R-UnitWords .written))) l1) ∷ ‵ (froom tyUnit l0 0) ∷ ‵ (fdies tyUnit l0) ∷ []) (runs C Λ En i-9-3 qq)
       from-9-3 qq ee zs-8 len-9 p-4 w-3 e-6 is-7 left1 bad p-17 w-16 e-18 is-19 =
-          assigns ! (of-opd ! (unit-lit !)) (from ! (stop !)) (init ! 143 refl (tt, tt)) $
-          returns-within ! Post ee (look ! 143 refl) $
-          forget ! 143 refl $
-          move ! (143 ∷ 144 ∷ 141 ∷ 142 ∷ 139 ∷ 140 ∷ 137 ∷ 138 ∷ 135 ∷ 136 ∷ 133 ∷ 134 ∷ 131 ∷ 132 ∷ 129 ∷ 130 ∷ 127 ∷ 128 ∷ 125 ∷ 126 ∷ 123 ∷ 124 ∷ 121 ∷ 122 ∷ 119 ∷ 120 ∷ 117 ∷ 118 ∷ 115 ∷ 116 ∷ 113 ∷ 114 ∷ 111 ∷ 112 ∷ 109 ∷ 110 ∷ 107 ∷ 108 ∷ 105 ∷ 106 ∷ 103 ∷ 104 ∷ 101 ∷ 102 ∷ 99 ∷ 100 ∷ 97 ∷ 98 ∷ 95 ∷ 96 ∷ 93 ∷ 94 ∷ 91 ∷ 92 ∷ 89 ∷ 90 ∷ 87 ∷ 88 ∷ 85 ∷ 86 ∷ 83 ∷ 84 ∷ 81 ∷ 82 ∷ 79 ∷ 80 ∷ 77 ∷ 78 ∷ 75 ∷ 76 ∷ 73 ∷ 74 ∷ 71 ∷ 72 ∷ 69 ∷ 70 ∷ 67 ∷ 68 ∷ 65 ∷ 66 ∷ 63 ∷ 64 ∷ 61 ∷ 62 ∷ 59 ∷ 60 ∷ 57 ∷ 58 ∷ 55 ∷ 56 ∷ 53 ∷ 54 ∷ 51 ∷ 52 ∷ 49 ∷ 50 ∷ 47 ∷ 48 ∷ 45 ∷ 46 ∷ 43 ∷ 44 ∷ 41 ∷ 42 ∷ 39 ∷ 40 ∷ 37 ∷ 38 ∷ 35 ∷ 36 ∷ 33 ∷ 34 ∷ 31 ∷ 32 ∷ 29 ∷ 30 ∷ 27 ∷ 28 ∷ 25 ∷ 26 ∷ 23 ∷ 24 ∷ 21 ∷ 22 ∷ []) $
+          assigns ! (of-opd ! (unit-lit !)) (from ! (stop !)) (init ! 151 refl (tt, tt)) $
+          returns-within ! Post ee (look ! 151 refl) $
+          forget ! 151 refl $
+          move ! (151 ∷ 152 ∷ 149 ∷ 150 ∷ 147 ∷ 148 ∷ 145 ∷ 146 ∷ 143 ∷ 144 ∷ 141 ∷ 142 ∷ 139 ∷ 140 ∷ 137 ∷ 138 ∷ 135 ∷ 136 ∷ 133 ∷ 134 ∷ 131 ∷ 132 ∷ 129 ∷ 130 ∷ 127 ∷ 128 ∷ 125 ∷ 126 ∷ 123 ∷ 124 ∷ 121 ∷ 122 ∷ 119 ∷ 120 ∷ 117 ∷ 118 ∷ 115 ∷ 116 ∷ 113 ∷ 114 ∷ 111 ∷ 112 ∷ 109 ∷ 110 ∷ 107 ∷ 108 ∷ 105 ∷ 106 ∷ 103 ∷ 104 ∷ 101 ∷ 102 ∷ 99 ∷ 100 ∷ 97 ∷ 98 ∷ 95 ∷ 96 ∷ 93 ∷ 94 ∷ 91 ∷ 92 ∷ 89 ∷ 90 ∷ 87 ∷ 88 ∷ 85 ∷ 86 ∷ 83 ∷ 84 ∷ 81 ∷ 82 ∷ 79 ∷ 80 ∷ 77 ∷ 78 ∷ 75 ∷ 76 ∷ 73 ∷ 74 ∷ 71 ∷ 72 ∷ 69 ∷ 70 ∷ 67 ∷ 68 ∷ 65 ∷ 66 ∷ 63 ∷ 64 ∷ 61 ∷ 62 ∷ 59 ∷ 60 ∷ 57 ∷ 58 ∷ 55 ∷ 56 ∷ 53 ∷ 54 ∷ 51 ∷ 52 ∷ 49 ∷ 50 ∷ 47 ∷ 48 ∷ 45 ∷ 46 ∷ 43 ∷ 44 ∷ 41 ∷ 42 ∷ 39 ∷ 40 ∷ 37 ∷ 38 ∷ 35 ∷ 36 ∷ 33 ∷ 34 ∷ 31 ∷ 32 ∷ 29 ∷ 30 ∷ 27 ∷ 28 ∷ 25 ∷ 26 ∷ 23 ∷ 24 ∷ 21 ∷ 22 ∷ []) $
           freed _ _ (
           keep ! (19 ∷ 20 ∷ 8 ∷ 17 ∷ 18 ∷ 7 ∷ 14 ∷ 15 ∷ 6 ∷ 12 ∷ 13 ∷ 5 ∷ 3 ∷ 4 ∷ 0 ∷ 1 ∷ 2 ∷ 11 ∷ 10 ∷ 9 ∷ []) $
           by ! (exits-2 zs-8 len-9 p-4 w-3 e-6 is-7 left1 bad p-17 w-16 e-18 is-19))
 
-      from-9-1 : (qq : Kit-Post 𝓤 H) (ee : post 𝓤 H qq returnsᴼ ≡ atReturn 𝓤 H En Post returnsᴼ) (zs-8 : List ℕ) (len-9 : length zs-8 ≡ length h5) (p-4 : SReceived.Received) (w-3 : Val) (e-6 : (p-4 ≡ receivedBy (readOf h5)) × (zs-8 ≡ h5)) (is-7 : Is R-Received p-4 (w-3 ∷ [])) (left1 : Holds (not (p-4 .barred))) (bad : Holds (not (eqb (length h3) 5))) → Sq W (‵ (MutSlice (named 4) κ5 R-u8 .own (x5 zs-8) ((sliceVal (b5, o5) (length h5)) ∷ [])) ∷ ‵ (flft κ5 q5) ∷ ‵ (flft κ8 q8) ∷ ‵ (flft κ4 q4) ∷ ‵ (flft κ3 q3) ∷ ‵ (flft κ2 q2) ∷ ‵ (flft κ1 q1) ∷ ‵ (ftrue) ∷ ‵ (fobs γ8 (R-AnswerWords .coded .code h8)) ∷ ‵ (fbor κ8 (Body (mem R-AnswerWords) b8 o8 γ8)) ∷ ‵ (R-Stamp .own h7 (u7 ∷ [])) ∷ ‵ (R-u64 .own h6 (u6 ∷ [])) ∷ ‵ (fobs γ4 (R-Watch .coded .code h4)) ∷ ‵ (fbor κ4 (Body (mem R-Watch) b4 o4 γ4)) ∷ ‵ (fobs γ3 (codedHoleys R-MasterWords .code (heres R-MasterWords h3))) ∷ ‵ (fbor κ3 (Held R-MasterWords (length h3) b3 o3 γ3)) ∷ ‵ (at-slice R-MasterWords (x3 h3) ((sliceVal (b3, o3) (length h3)) ∷ [])) ∷ ‵ (fobs γ2 (R-Servo .coded .code h2)) ∷ ‵ (fbor κ2 (Body (mem R-Servo) b2 o2 γ2)) ∷ ‵ (fobs γ1 (R-UnitWords .coded .code h1)) ∷ ‵ (fbor κ1 (Body (mem R-UnitWords) b1 o1 γ1)) ∷ ‵ (froom (tyRef erased mut (pointee (R-u8x128 .written))) l61 0) ∷ ‵ (fdies (tyRef erased mut (pointee (R-u8x128 .written))) l61) ∷ ‵ (froom (tyRef erased mut (pointee (R-i32x128 .written))) l60 0) ∷ ‵ (fdies (tyRef erased mut (pointee (R-i32x128 .written))) l60) ∷ ‵ (froom (tyRef erased mut (pointee (R-i64x128 .written))) l59 0) ∷ ‵ (fdies (tyRef erased mut (pointee (R-i64x128 .written))) l59) ∷ ‵ (froom MHead′.mir l58 0) ∷ ‵ (fdies MHead′.mir l58) ∷ ‵ (froom MAnswerWords′.mir l57 0) ∷ ‵ (fdies MAnswerWords′.mir l57) ∷ ‵ (froom MAnswerWords′.mir l56 0) ∷ ‵ (fdies MAnswerWords′.mir l56) ∷ ‵ (froom (tyRef erased mut (pointee (R-u8x128 .written))) l55 0) ∷ ‵ (fdies (tyRef erased mut (pointee (R-u8x128 .written))) l55) ∷ ‵ (froom (tyRef erased mut (pointee (R-i32x128 .written))) l54 0) ∷ ‵ (fdies (tyRef erased mut (pointee (R-i32x128 .written))) l54) ∷ ‵ (froom (tyRef erased mut (pointee (R-i64x128 .written))) l53 0) ∷ ‵ (fdies (tyRef erased mut (pointee (R-i64x128 .written))) l53) ∷ ‵ (froom MHead′.mir l52 0) ∷ ‵ (fdies MHead′.mir l52) ∷ ‵ (froom tyPtr l51 0) ∷ ‵ (fdies tyPtr l51) ∷ ‵ (froom tyPtr l50 0) ∷ ‵ (fdies tyPtr l50) ∷ ‵ (froom (tyInt w64) l49 0) ∷ ‵ (fdies (tyInt w64) l49) ∷ ‵ (froom MAnswerWords′.mir l48 0) ∷ ‵ (fdies MAnswerWords′.mir l48) ∷ ‵ (froom tyBool l47 0) ∷ ‵ (fdies tyBool l47) ∷ ‵ (froom tyPtr l46 0) ∷ ‵ (fdies tyPtr l46) ∷ ‵ (froom tyPtr l45 0) ∷ ‵ (fdies tyPtr l45) ∷ ‵ (froom tyPtr l44 0) ∷ ‵ (fdies tyPtr l44) ∷ ‵ (froom tyPtr l43 0) ∷ ‵ (fdies tyPtr l43) ∷ ‵ (froom MMasterWords′.mir l42 0) ∷ ‵ (fdies MMasterWords′.mir l42) ∷ ‵ (froom tyPtr l41 0) ∷ ‵ (fdies tyPtr l41) ∷ ‵ (froom MAnswerWords′.mir l40 0) ∷ ‵ (fdies MAnswerWords′.mir l40) ∷ ‵ (froom (tyInt w64) l39 0) ∷ ‵ (fdies (tyInt w64) l39) ∷ ‵ (froom MAnswerWords′.mir l38 0) ∷ ‵ (fdies MAnswerWords′.mir l38) ∷ ‵ (froom tyBool l37 0) ∷ ‵ (fdies tyBool l37) ∷ ‵ (froom (sliceTy (tyRef erased mut (tyInt w8))) l36 0) ∷ ‵ (fdies (sliceTy (tyRef erased mut (tyInt w8))) l36) ∷ ‵ (froom (tyRef erased mut (tyInt w8)) l35 0) ∷ ‵ (fdies (tyRef erased mut (tyInt w8)) l35) ∷ ‵ (froom tyBool l34 0) ∷ ‵ (fdies tyBool l34) ∷ ‵ (froom MServo′.mir l33 0) ∷ ‵ (fdies MServo′.mir l33) ∷ ‵ (froom MServo′.mir l32 0) ∷ ‵ (fdies MServo′.mir l32) ∷ ‵ (froom tyBool l31 0) ∷ ‵ (fdies tyBool l31) ∷ ‵ (froom MTold′.mir l30 0) ∷ ‵ (fdies MTold′.mir l30) ∷ ‵ (froom MDelaysWords′.mir l29 0) ∷ ‵ (fdies MDelaysWords′.mir l29) ∷ ‵ (froom MHalvesWords′.mir l28 0) ∷ ‵ (fdies MHalvesWords′.mir l28) ∷ ‵ (froom MEmptied′.mir l27 0) ∷ ‵ (fdies MEmptied′.mir l27) ∷ ‵ (froom tyBool l26 0) ∷ ‵ (fdies tyBool l26) ∷ ‵ (froom MHeld′.mir l25 0) ∷ ‵ (fdies MHeld′.mir l25) ∷ ‵ (froom MMasterWords′.mir l24 0) ∷ ‵ (fdies MMasterWords′.mir l24) ∷ ‵ (froom (tyInt w64) l23 0) ∷ ‵ (fdies (tyInt w64) l23) ∷ ‵ (froom tyBool l22 0) ∷ ‵ (fdies tyBool l22) ∷ ‵ (froom MSeat′.mir l21 0) ∷ ‵ (fdies MSeat′.mir l21) ∷ ‵ (froom MLooked′.mir l20 0) ∷ ‵ (fdies MLooked′.mir l20) ∷ ‵ (froom MLooked′.mir l19 0) ∷ ‵ (fdies MLooked′.mir l19) ∷ ‵ (froom MLooked′.mir l18 0) ∷ ‵ (fdies MLooked′.mir l18) ∷ ‵ (froom MLooked′.mir l17 0) ∷ ‵ (fdies MLooked′.mir l17) ∷ ‵ (froom MLooked′.mir l16 0) ∷ ‵ (fdies MLooked′.mir l16) ∷ ‵ (froom (tyInt w32) l15 0) ∷ ‵ (fdies (tyInt w32) l15) ∷ ‵ (froom tyBool l14 0) ∷ ‵ (fdies tyBool l14) ∷ ‵ (froom MStateWords′.mir l13 0) ∷ ‵ (fdies MStateWords′.mir l13) ∷ ‵ (froom MSettingsWords′.mir l12 0) ∷ ‵ (fdies MSettingsWords′.mir l12) ∷ ‵ (froom MMessage′.mir l11 0) ∷ ‵ (fdies MMessage′.mir l11) ∷ ‵ (froom tyBool l10 0) ∷ ‵ (fdies tyBool l10) ∷ ‵ (froom MReceived′.mir l9 0) ∷ ‵ (fdies MReceived′.mir l9) ∷ ‵ (fat fullShare (tyRef (named 5) mut (pointee (R-AnswerWords .written))) l8 0 (vptr b8 o8)) ∷ ‵ (fdies (tyRef (named 5) mut (pointee (R-AnswerWords .written))) l8) ∷ ‵ (froom MStamp′.mir l7 0) ∷ ‵ (fdies MStamp′.mir l7) ∷ ‵ (froom (tyInt w64) l6 0) ∷ ‵ (fdies (tyInt w64) l6) ∷ ‵ (froom (sliceTy (tyRef (named 4) mut (tyInt w8))) l5 0) ∷ ‵ (fdies (sliceTy (tyRef (named 4) mut (tyInt w8))) l5) ∷ ‵ (froom (tyRef (named 3) mut (pointee (R-Watch .written))) l4 0) ∷ ‵ (fdies (tyRef (named 3) mut (pointee (R-Watch .written))) l4) ∷ ‵ (froom (sliceTy (tyRef (named 2) mut (pointee (R-MasterWords .written)))) l3 0) ∷ ‵ (fdies (sliceTy (tyRef (named 2) mut (pointee (R-MasterWords .written)))) l3) ∷ ‵ (froom (tyRef (named 1) mut (pointee (R-Servo .written))) l2 0) ∷ ‵ (fdies (tyRef (named 1) mut (pointee (R-Servo .written))) l2) ∷ ‵ (froom (tyRef (named 0) mut (pointee (R-UnitWords .written))) l1 0) ∷ ‵ (fdies (tyRef (named 0) mut (pointee (R-UnitWords .written))) l1) ∷ ‵ (froom tyUnit l0 0) ∷ ‵ (fdies tyUnit l0) ∷ []) (runs C Λ En i-9-1 qq)
+      from-9-1 : (qq : Kit-Post 𝓤 H) (ee : post 𝓤 H qq returnsᴼ ≡ atReturn 𝓤 H En Post returnsᴼ) (zs-8 : List ℕ) (len-9 : length zs-8 ≡ length h5) (p-4 : SReceived.Received) (w-3 : Val) (e-6 : (p-4 ≡ receivedBy (readOf h5)) × (zs-8 ≡ h5)) (is-7 : Is R-Received p-4 (w-3 ∷ [])) (left1 : Holds (not (p-4 .barred))) (bad : Holds (not (eqb (length h3) 5))) → Sq W (‵ (MutSlice (named 4) κ5 R-u8 .own (x5 zs-8) ((sliceVal (b5, o5) (length h5)) ∷ [])) ∷ ‵ (flft κ5 q5) ∷ ‵ (flft κ8 q8) ∷ ‵ (flft κ4 q4) ∷ ‵ (flft κ3 q3) ∷ ‵ (flft κ2 q2) ∷ ‵ (flft κ1 q1) ∷ ‵ (ftrue) ∷ ‵ (fobs γ8 (R-AnswerWords .coded .code h8)) ∷ ‵ (fbor κ8 (Body (mem R-AnswerWords) b8 o8 γ8)) ∷ ‵ (R-Stamp .own h7 (u7 ∷ [])) ∷ ‵ (R-u64 .own h6 (u6 ∷ [])) ∷ ‵ (fobs γ4 (R-Watch .coded .code h4)) ∷ ‵ (fbor κ4 (Body (mem R-Watch) b4 o4 γ4)) ∷ ‵ (fobs γ3 (codedHoleys R-MasterWords .code (heres R-MasterWords h3))) ∷ ‵ (fbor κ3 (Held R-MasterWords (length h3) b3 o3 γ3)) ∷ ‵ (at-slice R-MasterWords (x3 h3) ((sliceVal (b3, o3) (length h3)) ∷ [])) ∷ ‵ (fobs γ2 (R-Servo .coded .code h2)) ∷ ‵ (fbor κ2 (Body (mem R-Servo) b2 o2 γ2)) ∷ ‵ (fobs γ1 (R-UnitWords .coded .code h1)) ∷ ‵ (fbor κ1 (Body (mem R-UnitWords) b1 o1 γ1)) ∷ ‵ (froom (tyRef erased mut (pointee (R-u8x128 .written))) l65 0) ∷ ‵ (fdies (tyRef erased mut (pointee (R-u8x128 .written))) l65) ∷ ‵ (froom (tyRef erased mut (pointee (R-i32x128 .written))) l64 0) ∷ ‵ (fdies (tyRef erased mut (pointee (R-i32x128 .written))) l64) ∷ ‵ (froom (tyRef erased mut (pointee (R-i64x128 .written))) l63 0) ∷ ‵ (fdies (tyRef erased mut (pointee (R-i64x128 .written))) l63) ∷ ‵ (froom MHead′.mir l62 0) ∷ ‵ (fdies MHead′.mir l62) ∷ ‵ (froom MAnswerWords′.mir l61 0) ∷ ‵ (fdies MAnswerWords′.mir l61) ∷ ‵ (froom MAnswerWords′.mir l60 0) ∷ ‵ (fdies MAnswerWords′.mir l60) ∷ ‵ (froom (tyRef erased mut (pointee (R-u8x128 .written))) l59 0) ∷ ‵ (fdies (tyRef erased mut (pointee (R-u8x128 .written))) l59) ∷ ‵ (froom (tyRef erased mut (pointee (R-i32x128 .written))) l58 0) ∷ ‵ (fdies (tyRef erased mut (pointee (R-i32x128 .written))) l58) ∷ ‵ (froom (tyRef erased mut (pointee (R-i64x128 .written))) l57 0) ∷ ‵ (fdies (tyRef erased mut (pointee (R-i64x128 .written))) l57) ∷ ‵ (froom MHead′.mir l56 0) ∷ ‵ (fdies MHead′.mir l56) ∷ ‵ (froom tyPtr l55 0) ∷ ‵ (fdies tyPtr l55) ∷ ‵ (froom tyPtr l54 0) ∷ ‵ (fdies tyPtr l54) ∷ ‵ (froom (tyInt w64) l53 0) ∷ ‵ (fdies (tyInt w64) l53) ∷ ‵ (froom MAnswerWords′.mir l52 0) ∷ ‵ (fdies MAnswerWords′.mir l52) ∷ ‵ (froom tyBool l51 0) ∷ ‵ (fdies tyBool l51) ∷ ‵ (froom tyPtr l50 0) ∷ ‵ (fdies tyPtr l50) ∷ ‵ (froom tyPtr l49 0) ∷ ‵ (fdies tyPtr l49) ∷ ‵ (froom tyPtr l48 0) ∷ ‵ (fdies tyPtr l48) ∷ ‵ (froom tyPtr l47 0) ∷ ‵ (fdies tyPtr l47) ∷ ‵ (froom MMasterWords′.mir l46 0) ∷ ‵ (fdies MMasterWords′.mir l46) ∷ ‵ (froom tyPtr l45 0) ∷ ‵ (fdies tyPtr l45) ∷ ‵ (froom MAnswerWords′.mir l44 0) ∷ ‵ (fdies MAnswerWords′.mir l44) ∷ ‵ (froom (tyInt w64) l43 0) ∷ ‵ (fdies (tyInt w64) l43) ∷ ‵ (froom MAnswerWords′.mir l42 0) ∷ ‵ (fdies MAnswerWords′.mir l42) ∷ ‵ (froom tyBool l41 0) ∷ ‵ (fdies tyBool l41) ∷ ‵ (froom (sliceTy (tyRef erased mut (tyInt w8))) l40 0) ∷ ‵ (fdies (sliceTy (tyRef erased mut (tyInt w8))) l40) ∷ ‵ (froom (tyRef erased mut (tyInt w8)) l39 0) ∷ ‵ (fdies (tyRef erased mut (tyInt w8)) l39) ∷ ‵ (froom (tyInt w16) l38 0) ∷ ‵ (fdies (tyInt w16) l38) ∷ ‵ (froom (tyInt w8) l37 0) ∷ ‵ (fdies (tyInt w8) l37) ∷ ‵ (froom MServo′.mir l36 0) ∷ ‵ (fdies MServo′.mir l36) ∷ ‵ (froom tyBool l35 0) ∷ ‵ (fdies tyBool l35) ∷ ‵ (froom tyBool l34 0) ∷ ‵ (fdies tyBool l34) ∷ ‵ (froom MAccepted′.mir l33 0) ∷ ‵ (fdies MAccepted′.mir l33) ∷ ‵ (froom MServo′.mir l32 0) ∷ ‵ (fdies MServo′.mir l32) ∷ ‵ (froom tyBool l31 0) ∷ ‵ (fdies tyBool l31) ∷ ‵ (froom MTold′.mir l30 0) ∷ ‵ (fdies MTold′.mir l30) ∷ ‵ (froom MDelaysWords′.mir l29 0) ∷ ‵ (fdies MDelaysWords′.mir l29) ∷ ‵ (froom MHalvesWords′.mir l28 0) ∷ ‵ (fdies MHalvesWords′.mir l28) ∷ ‵ (froom MEmptied′.mir l27 0) ∷ ‵ (fdies MEmptied′.mir l27) ∷ ‵ (froom tyBool l26 0) ∷ ‵ (fdies tyBool l26) ∷ ‵ (froom MHeld′.mir l25 0) ∷ ‵ (fdies MHeld′.mir l25) ∷ ‵ (froom MMasterWords′.mir l24 0) ∷ ‵ (fdies MMasterWords′.mir l24) ∷ ‵ (froom (tyInt w64) l23 0) ∷ ‵ (fdies (tyInt w64) l23) ∷ ‵ (froom tyBool l22 0) ∷ ‵ (fdies tyBool l22) ∷ ‵ (froom MSeat′.mir l21 0) ∷ ‵ (fdies MSeat′.mir l21) ∷ ‵ (froom MLooked′.mir l20 0) ∷ ‵ (fdies MLooked′.mir l20) ∷ ‵ (froom MLooked′.mir l19 0) ∷ ‵ (fdies MLooked′.mir l19) ∷ ‵ (froom MLooked′.mir l18 0) ∷ ‵ (fdies MLooked′.mir l18) ∷ ‵ (froom MLooked′.mir l17 0) ∷ ‵ (fdies MLooked′.mir l17) ∷ ‵ (froom MLooked′.mir l16 0) ∷ ‵ (fdies MLooked′.mir l16) ∷ ‵ (froom (tyInt w32) l15 0) ∷ ‵ (fdies (tyInt w32) l15) ∷ ‵ (froom tyBool l14 0) ∷ ‵ (fdies tyBool l14) ∷ ‵ (froom MStateWords′.mir l13 0) ∷ ‵ (fdies MStateWords′.mir l13) ∷ ‵ (froom MSettingsWords′.mir l12 0) ∷ ‵ (fdies MSettingsWords′.mir l12) ∷ ‵ (froom MMessage′.mir l11 0) ∷ ‵ (fdies MMessage′.mir l11) ∷ ‵ (froom tyBool l10 0) ∷ ‵ (fdies tyBool l10) ∷ ‵ (froom MReceived′.mir l9 0) ∷ ‵ (fdies MReceived′.mir l9) ∷ ‵ (fat fullShare (tyRef (named 5) mut (pointee (R-AnswerWords .written))) l8 0 (vptr b8 o8)) ∷ ‵ (fdies (tyRef (named 5) mut (pointee (R-AnswerWords .written))) l8) ∷ ‵ (froom MStamp′.mir l7 0) ∷ ‵ (fdies MStamp′.mir l7) ∷ ‵ (froom (tyInt w64) l6 0) ∷ ‵ (fdies (tyInt w64) l6) ∷ ‵ (froom (sliceTy (tyRef (named 4) mut (tyInt w8))) l5 0) ∷ ‵ (fdies (sliceTy (tyRef (named 4) mut (tyInt w8))) l5) ∷ ‵ (froom (tyRef (named 3) mut (pointee (R-Watch .written))) l4 0) ∷ ‵ (fdies (tyRef (named 3) mut (pointee (R-Watch .written))) l4) ∷ ‵ (froom (sliceTy (tyRef (named 2) mut (pointee (R-MasterWords .written)))) l3 0) ∷ ‵ (fdies (sliceTy (tyRef (named 2) mut (pointee (R-MasterWords .written)))) l3) ∷ ‵ (froom (tyRef (named 1) mut (pointee (R-Servo .written))) l2 0) ∷ ‵ (fdies (tyRef (named 1) mut (pointee (R-Servo .written))) l2) ∷ ‵ (froom (tyRef (named 0) mut (pointee (R-UnitWords .written))) l1 0) ∷ ‵ (fdies (tyRef (named 0) mut (pointee (R-UnitWords .written))) l1) ∷ ‵ (froom tyUnit l0 0) ∷ ‵ (fdies tyUnit l0) ∷ []) (runs C Λ En i-9-1 qq)
       from-9-1 qq ee zs-8 len-9 p-4 w-3 e-6 is-7 left1 bad =
           use0 W (raw (C-untabled 𝓤 H A at-mem run .pre (to-untabled))) (goes-untabled) $
           calls-at ! fm (C-untabled 𝓤 H A at-mem run) known-untabled (to-untabled) (no-more !) (λ w-16.
@@ -1918,29 +1918,29 @@ module _ {M : Type 1} (𝓤 : URA M) (H : Heap 𝓤) (A : Atoms 𝓤) (W : Given
           peeks ! R-AnswerWords (Is R-AnswerWords) (shows 𝓤 H A R-AnswerWords) h8 vs-20 (λ g-21.
           rewrite ! 0 (λ (us : List Val). ‵ (R-AnswerWords .own h8 us)) (lone-AnswerWords h8 vs-20 g-21) refl $
           rewrite ! 1 (λ (us : List Val). ‵ (cellAt fullShare (R-AnswerWords .mir) us b8 o8)) (lone-AnswerWords h8 vs-20 g-21) refl $
-          assigns ! (of-opd ! (load ! (from ! (stop !)) (look ! 65 refl))) (from ! (hop ! (look ! 129 refl) (stop !))) (store-raw ! 1 refl (lawful-AnswerWords 𝓤 H A W .typed p-17 _ is-19 .0)) $
+          assigns ! (of-opd ! (load ! (from ! (stop !)) (look ! 65 refl))) (from ! (hop ! (look ! 137 refl) (stop !))) (store-raw ! 1 refl (lawful-AnswerWords 𝓤 H A W .typed p-17 _ is-19 .0)) $
           drop ! $
           owned ! R-AnswerWords (Is R-AnswerWords) (makes-AnswerWords 𝓤 H A W) p-17 _ is-19 $
           move ! (1 ∷ 0 ∷ 2 ∷ 3 ∷ 4 ∷ []) $
           closes ! tt R-AnswerWords p-17 (w-16 ∷ []) b8 o8 $
-          forget ! 127 refl $ forget ! 63 refl $
+          forget ! 135 refl $ forget ! 63 refl $
           from-9-3 qq ee zs-8 len-9 p-4 w-3 e-6 is-7 left1 bad p-17 w-16 e-18 is-19))))))
 
-      from-15-20-3 : (qq : Kit-Post 𝓤 H) (ee : post 𝓤 H qq returnsᴼ ≡ atReturn 𝓤 H En Post returnsᴼ) (zs-8 : List ℕ) (len-9 : length zs-8 ≡ length h5) (p-4 : SReceived.Received) (w-3 : Val) (e-6 : (p-4 ≡ receivedBy (readOf h5)) × (zs-8 ≡ h5)) (is-7 : Is R-Received p-4 (w-3 ∷ [])) (left1 : Holds (not (p-4 .barred))) (good : Holds (not (not (eqb (length h3) 5)))) (u-24 : Val) (g-25 : Is R-SettingsWords (h1 .settings) (u-24 ∷ [])) (u-28 : Val) (g-29 : Is R-StateWords (h1 .state) (u-28 ∷ [])) (held2 : Holds (p-4 .announces)) (p-31 : ℕ) (w-30 : Val) (e-32 : p-31 ≡ intervalOf ((h1 .settings) .announce)) (is-33 : Is R-u32 p-31 (w-30 ∷ [])) (g-34 : Is R-MasterWords (el 0) (v-MasterWords (el 0))) (p-36 : SLooked.Looked) (w-35 : Val) (e-37 : p-36 ≡ lookedOf (p-4 .message) h6 p-31 (recordIn (el 0))) (is-38 : Is R-Looked p-36 (w-35 ∷ [])) (g-39 : Is R-MasterWords (el 1) (v-MasterWords (el 1))) (p-41 : SLooked.Looked) (w-40 : Val) (e-42 : p-41 ≡ lookedOf (p-4 .message) h6 p-31 (recordIn (el 1))) (is-43 : Is R-Looked p-41 (w-40 ∷ [])) (g-44 : Is R-MasterWords (el 2) (v-MasterWords (el 2))) (p-46 : SLooked.Looked) (w-45 : Val) (e-47 : p-46 ≡ lookedOf (p-4 .message) h6 p-31 (recordIn (el 2))) (is-48 : Is R-Looked p-46 (w-45 ∷ [])) (g-49 : Is R-MasterWords (el 3) (v-MasterWords (el 3))) (p-51 : SLooked.Looked) (w-50 : Val) (e-52 : p-51 ≡ lookedOf (p-4 .message) h6 p-31 (recordIn (el 3))) (is-53 : Is R-Looked p-51 (w-50 ∷ [])) (g-54 : Is R-MasterWords (el 4) (v-MasterWords (el 4))) (p-56 : SLooked.Looked) (w-55 : Val) (e-57 : p-56 ≡ lookedOf (p-4 .message) h6 p-31 (recordIn (el 4))) (is-58 : Is R-Looked p-56 (w-55 ∷ [])) (p-60 : SSeat.Seat) (w-59 : Val) (e-61 : p-60 ≡ seatBy (h1 .settings) (h1 .state) (p-4 .message) h6 (p-36 .standing) (p-41 .standing) (p-46 .standing) (p-51 .standing) (p-56 .standing)) (is-62 : Is R-Seat p-60 (w-59 ∷ [])) (held3 : Holds (p-60 .barred)) (p-64 : SAnswerWords.AnswerWords) (w-63 : Val) (e-65 : p-64 ≡ refusing (p-60 .number)) (is-66 : Is R-AnswerWords p-64 (w-63 ∷ [])) → Sq W (‵ (fobs γ8 (R-AnswerWords .coded .code p-64)) ∷ ‵ (fbor κ8 (Body (mem R-AnswerWords) b8 o8 γ8)) ∷ ‵ (flft κ8 q8) ∷ ‵ (fobs γ3 (codedHoleys R-MasterWords .code (heres R-MasterWords h3))) ∷ ‵ (fbor κ3 (Held R-MasterWords (length h3) b3 o3 γ3)) ∷ ‵ (flft κ3 q3) ∷ ‵ (fobs γ1 (R-UnitWords .coded .code h1)) ∷ ‵ (fbor κ1 (Body (mem R-UnitWords) b1 o1 γ1)) ∷ ‵ (flft κ1 q1) ∷ ‵ (MutSlice (named 4) κ5 R-u8 .own (x5 zs-8) ((sliceVal (b5, o5) (length h5)) ∷ [])) ∷ ‵ (flft κ5 q5) ∷ ‵ (flft κ4 q4) ∷ ‵ (flft κ2 q2) ∷ ‵ (ftrue) ∷ ‵ (R-Stamp .own h7 (u7 ∷ [])) ∷ ‵ (R-u64 .own h6 (u6 ∷ [])) ∷ ‵ (fobs γ4 (R-Watch .coded .code h4)) ∷ ‵ (fbor κ4 (Body (mem R-Watch) b4 o4 γ4)) ∷ ‵ (at-slice R-MasterWords (x3 h3) ((sliceVal (b3, o3) (length h3)) ∷ [])) ∷ ‵ (fobs γ2 (R-Servo .coded .code h2)) ∷ ‵ (fbor κ2 (Body (mem R-Servo) b2 o2 γ2)) ∷ ‵ (froom (tyRef erased mut (pointee (R-u8x128 .written))) l61 0) ∷ ‵ (fdies (tyRef erased mut (pointee (R-u8x128 .written))) l61) ∷ ‵ (froom (tyRef erased mut (pointee (R-i32x128 .written))) l60 0) ∷ ‵ (fdies (tyRef erased mut (pointee (R-i32x128 .written))) l60) ∷ ‵ (froom (tyRef erased mut (pointee (R-i64x128 .written))) l59 0) ∷ ‵ (fdies (tyRef erased mut (pointee (R-i64x128 .written))) l59) ∷ ‵ (froom MHead′.mir l58 0) ∷ ‵ (fdies MHead′.mir l58) ∷ ‵ (froom MAnswerWords′.mir l57 0) ∷ ‵ (fdies MAnswerWords′.mir l57) ∷ ‵ (froom MAnswerWords′.mir l56 0) ∷ ‵ (fdies MAnswerWords′.mir l56) ∷ ‵ (froom (tyRef erased mut (pointee (R-u8x128 .written))) l55 0) ∷ ‵ (fdies (tyRef erased mut (pointee (R-u8x128 .written))) l55) ∷ ‵ (froom (tyRef erased mut (pointee (R-i32x128 .written))) l54 0) ∷ ‵ (fdies (tyRef erased mut (pointee (R-i32x128 .written))) l54) ∷ ‵ (froom (tyRef erased mut (pointee (R-i64x128 .written))) l53 0) ∷ ‵ (fdies (tyRef erased mut (pointee (R-i64x128 .written))) l53) ∷ ‵ (froom MHead′.mir l52 0) ∷ ‵ (fdies MHead′.mir l52) ∷ ‵ (froom tyPtr l51 0) ∷ ‵ (fdies tyPtr l51) ∷ ‵ (froom tyPtr l50 0) ∷ ‵ (fdies tyPtr l50) ∷ ‵ (froom (tyInt w64) l49 0) ∷ ‵ (fdies (tyInt w64) l49) ∷ ‵ (froom MAnswerWords′.mir l48 0) ∷ ‵ (fdies MAnswerWords′.mir l48) ∷ ‵ (froom tyBool l47 0) ∷ ‵ (fdies tyBool l47) ∷ ‵ (froom tyPtr l46 0) ∷ ‵ (fdies tyPtr l46) ∷ ‵ (froom tyPtr l45 0) ∷ ‵ (fdies tyPtr l45) ∷ ‵ (froom tyPtr l44 0) ∷ ‵ (fdies tyPtr l44) ∷ ‵ (froom tyPtr l43 0) ∷ ‵ (fdies tyPtr l43) ∷ ‵ (froom MMasterWords′.mir l42 0) ∷ ‵ (fdies MMasterWords′.mir l42) ∷ ‵ (froom tyPtr l41 0) ∷ ‵ (fdies tyPtr l41) ∷ ‵ (froom MAnswerWords′.mir l40 0) ∷ ‵ (fdies MAnswerWords′.mir l40) ∷ ‵ (froom (tyInt w64) l39 0) ∷ ‵ (fdies (tyInt w64) l39) ∷ ‵ (froom MAnswerWords′.mir l38 0) ∷ ‵ (fdies MAnswerWords′.mir l38) ∷ ‵ (froom tyBool l37 0) ∷ ‵ (fdies tyBool l37) ∷ ‵ (froom (sliceTy (tyRef erased mut (tyInt w8))) l36 0) ∷ ‵ (fdies (sliceTy (tyRef erased mut (tyInt w8))) l36) ∷ ‵ (froom (tyRef erased mut (tyInt w8)) l35 0) ∷ ‵ (fdies (tyRef erased mut (tyInt w8)) l35) ∷ ‵ (froom tyBool l34 0) ∷ ‵ (fdies tyBool l34) ∷ ‵ (froom MServo′.mir l33 0) ∷ ‵ (fdies MServo′.mir l33) ∷ ‵ (froom MServo′.mir l32 0) ∷ ‵ (fdies MServo′.mir l32) ∷ ‵ (froom tyBool l31 0) ∷ ‵ (fdies tyBool l31) ∷ ‵ (froom MTold′.mir l30 0) ∷ ‵ (fdies MTold′.mir l30) ∷ ‵ (froom MDelaysWords′.mir l29 0) ∷ ‵ (fdies MDelaysWords′.mir l29) ∷ ‵ (froom MHalvesWords′.mir l28 0) ∷ ‵ (fdies MHalvesWords′.mir l28) ∷ ‵ (froom MEmptied′.mir l27 0) ∷ ‵ (fdies MEmptied′.mir l27) ∷ ‵ (froom tyBool l26 0) ∷ ‵ (fdies tyBool l26) ∷ ‵ (froom MHeld′.mir l25 0) ∷ ‵ (fdies MHeld′.mir l25) ∷ ‵ (froom MMasterWords′.mir l24 0) ∷ ‵ (fdies MMasterWords′.mir l24) ∷ ‵ (froom (tyInt w64) l23 0) ∷ ‵ (fdies (tyInt w64) l23) ∷ ‵ (froom tyBool l22 0) ∷ ‵ (fdies tyBool l22) ∷ ‵ (froom MSeat′.mir l21 0) ∷ ‵ (fdies MSeat′.mir l21) ∷ ‵ (froom MLooked′.mir l20 0) ∷ ‵ (fdies MLooked′.mir l20) ∷ ‵ (froom MLooked′.mir l19 0) ∷ ‵ (fdies MLooked′.mir l19) ∷ ‵ (froom MLooked′.mir l18 0) ∷ ‵ (fdies MLooked′.mir l18) ∷ ‵ (froom MLooked′.mir l17 0) ∷ ‵ (fdies MLooked′.mir l17) ∷ ‵ (froom MLooked′.mir l16 0) ∷ ‵ (fdies MLooked′.mir l16) ∷ ‵ (froom (tyInt w32) l15 0) ∷ ‵ (fdies (tyInt w32) l15) ∷ ‵ (froom tyBool l14 0) ∷ ‵ (fdies tyBool l14) ∷ ‵ (froom MStateWords′.mir l13 0) ∷ ‵ (fdies MStateWords′.mir l13) ∷ ‵ (froom MSettingsWords′.mir l12 0) ∷ ‵ (fdies MSettingsWords′.mir l12) ∷ ‵ (froom MMessage′.mir l11 0) ∷ ‵ (fdies MMessage′.mir l11) ∷ ‵ (froom tyBool l10 0) ∷ ‵ (fdies tyBool l10) ∷ ‵ (froom MReceived′.mir l9 0) ∷ ‵ (fdies MReceived′.mir l9) ∷ ‵ (froom (tyRef (named 5) mut (pointee (R-AnswerWords .written))) l8 0) ∷ ‵ (fdies (tyRef (named 5) mut (pointee (R-AnswerWords .written))) l8) ∷ ‵ (froom MStamp′.mir l7 0) ∷ ‵ (fdies MStamp′.mir l7) ∷ ‵ (froom (tyInt w64) l6 0) ∷ ‵ (fdies (tyInt w64) l6) ∷ ‵ (froom (sliceTy (tyRef (named 4) mut (tyInt w8))) l5 0) ∷ ‵ (fdies (sliceTy (tyRef (named 4) mut (tyInt w8))) l5) ∷ ‵ (froom (tyRef (named 3) mut (pointee (R-Watch .written))) l4 0) ∷ ‵ (fdies (tyRef (named 3) mut (pointee (R-Watch .written))) l4) ∷ ‵ (froom (sliceTy (tyRef (named 2) mut (pointee (R-MasterWords .written)))) l3 0) ∷ ‵ (fdies (sliceTy (tyRef (named 2) mut (pointee (R-MasterWords .written)))) l3) ∷ ‵ (froom (tyRef (named 1) mut (pointee (R-Servo .written))) l2 0) ∷ ‵ (fdies (tyRef (named 1) mut (pointee (R-Servo .written))) l2) ∷ ‵ (froom (tyRef (named 0) mut (pointee (R-UnitWords .written))) l1 0) ∷ ‵ (fdies (tyRef (named 0) mut (pointee (R-UnitWords .written))) l1) ∷ ‵ (froom tyUnit l0 0) ∷ ‵ (fdies tyUnit l0) ∷ []) (runs C Λ En i-15-20-3 qq)
+      from-15-20-3 : (qq : Kit-Post 𝓤 H) (ee : post 𝓤 H qq returnsᴼ ≡ atReturn 𝓤 H En Post returnsᴼ) (zs-8 : List ℕ) (len-9 : length zs-8 ≡ length h5) (p-4 : SReceived.Received) (w-3 : Val) (e-6 : (p-4 ≡ receivedBy (readOf h5)) × (zs-8 ≡ h5)) (is-7 : Is R-Received p-4 (w-3 ∷ [])) (left1 : Holds (not (p-4 .barred))) (good : Holds (not (not (eqb (length h3) 5)))) (u-24 : Val) (g-25 : Is R-SettingsWords (h1 .settings) (u-24 ∷ [])) (u-28 : Val) (g-29 : Is R-StateWords (h1 .state) (u-28 ∷ [])) (held2 : Holds (p-4 .announces)) (p-31 : ℕ) (w-30 : Val) (e-32 : p-31 ≡ intervalOf ((h1 .settings) .announce)) (is-33 : Is R-u32 p-31 (w-30 ∷ [])) (g-34 : Is R-MasterWords (el 0) (v-MasterWords (el 0))) (p-36 : SLooked.Looked) (w-35 : Val) (e-37 : p-36 ≡ lookedOf (p-4 .message) h6 p-31 (recordIn (el 0))) (is-38 : Is R-Looked p-36 (w-35 ∷ [])) (g-39 : Is R-MasterWords (el 1) (v-MasterWords (el 1))) (p-41 : SLooked.Looked) (w-40 : Val) (e-42 : p-41 ≡ lookedOf (p-4 .message) h6 p-31 (recordIn (el 1))) (is-43 : Is R-Looked p-41 (w-40 ∷ [])) (g-44 : Is R-MasterWords (el 2) (v-MasterWords (el 2))) (p-46 : SLooked.Looked) (w-45 : Val) (e-47 : p-46 ≡ lookedOf (p-4 .message) h6 p-31 (recordIn (el 2))) (is-48 : Is R-Looked p-46 (w-45 ∷ [])) (g-49 : Is R-MasterWords (el 3) (v-MasterWords (el 3))) (p-51 : SLooked.Looked) (w-50 : Val) (e-52 : p-51 ≡ lookedOf (p-4 .message) h6 p-31 (recordIn (el 3))) (is-53 : Is R-Looked p-51 (w-50 ∷ [])) (g-54 : Is R-MasterWords (el 4) (v-MasterWords (el 4))) (p-56 : SLooked.Looked) (w-55 : Val) (e-57 : p-56 ≡ lookedOf (p-4 .message) h6 p-31 (recordIn (el 4))) (is-58 : Is R-Looked p-56 (w-55 ∷ [])) (p-60 : SSeat.Seat) (w-59 : Val) (e-61 : p-60 ≡ seatBy (h1 .settings) (h1 .state) (p-4 .message) h6 (p-36 .standing) (p-41 .standing) (p-46 .standing) (p-51 .standing) (p-56 .standing)) (is-62 : Is R-Seat p-60 (w-59 ∷ [])) (held3 : Holds (p-60 .barred)) (p-64 : SAnswerWords.AnswerWords) (w-63 : Val) (e-65 : p-64 ≡ refusing (p-60 .number)) (is-66 : Is R-AnswerWords p-64 (w-63 ∷ [])) → Sq W (‵ (fobs γ8 (R-AnswerWords .coded .code p-64)) ∷ ‵ (fbor κ8 (Body (mem R-AnswerWords) b8 o8 γ8)) ∷ ‵ (flft κ8 q8) ∷ ‵ (fobs γ3 (codedHoleys R-MasterWords .code (heres R-MasterWords h3))) ∷ ‵ (fbor κ3 (Held R-MasterWords (length h3) b3 o3 γ3)) ∷ ‵ (flft κ3 q3) ∷ ‵ (fobs γ1 (R-UnitWords .coded .code h1)) ∷ ‵ (fbor κ1 (Body (mem R-UnitWords) b1 o1 γ1)) ∷ ‵ (flft κ1 q1) ∷ ‵ (MutSlice (named 4) κ5 R-u8 .own (x5 zs-8) ((sliceVal (b5, o5) (length h5)) ∷ [])) ∷ ‵ (flft κ5 q5) ∷ ‵ (flft κ4 q4) ∷ ‵ (flft κ2 q2) ∷ ‵ (ftrue) ∷ ‵ (R-Stamp .own h7 (u7 ∷ [])) ∷ ‵ (R-u64 .own h6 (u6 ∷ [])) ∷ ‵ (fobs γ4 (R-Watch .coded .code h4)) ∷ ‵ (fbor κ4 (Body (mem R-Watch) b4 o4 γ4)) ∷ ‵ (at-slice R-MasterWords (x3 h3) ((sliceVal (b3, o3) (length h3)) ∷ [])) ∷ ‵ (fobs γ2 (R-Servo .coded .code h2)) ∷ ‵ (fbor κ2 (Body (mem R-Servo) b2 o2 γ2)) ∷ ‵ (froom (tyRef erased mut (pointee (R-u8x128 .written))) l65 0) ∷ ‵ (fdies (tyRef erased mut (pointee (R-u8x128 .written))) l65) ∷ ‵ (froom (tyRef erased mut (pointee (R-i32x128 .written))) l64 0) ∷ ‵ (fdies (tyRef erased mut (pointee (R-i32x128 .written))) l64) ∷ ‵ (froom (tyRef erased mut (pointee (R-i64x128 .written))) l63 0) ∷ ‵ (fdies (tyRef erased mut (pointee (R-i64x128 .written))) l63) ∷ ‵ (froom MHead′.mir l62 0) ∷ ‵ (fdies MHead′.mir l62) ∷ ‵ (froom MAnswerWords′.mir l61 0) ∷ ‵ (fdies MAnswerWords′.mir l61) ∷ ‵ (froom MAnswerWords′.mir l60 0) ∷ ‵ (fdies MAnswerWords′.mir l60) ∷ ‵ (froom (tyRef erased mut (pointee (R-u8x128 .written))) l59 0) ∷ ‵ (fdies (tyRef erased mut (pointee (R-u8x128 .written))) l59) ∷ ‵ (froom (tyRef erased mut (pointee (R-i32x128 .written))) l58 0) ∷ ‵ (fdies (tyRef erased mut (pointee (R-i32x128 .written))) l58) ∷ ‵ (froom (tyRef erased mut (pointee (R-i64x128 .written))) l57 0) ∷ ‵ (fdies (tyRef erased mut (pointee (R-i64x128 .written))) l57) ∷ ‵ (froom MHead′.mir l56 0) ∷ ‵ (fdies MHead′.mir l56) ∷ ‵ (froom tyPtr l55 0) ∷ ‵ (fdies tyPtr l55) ∷ ‵ (froom tyPtr l54 0) ∷ ‵ (fdies tyPtr l54) ∷ ‵ (froom (tyInt w64) l53 0) ∷ ‵ (fdies (tyInt w64) l53) ∷ ‵ (froom MAnswerWords′.mir l52 0) ∷ ‵ (fdies MAnswerWords′.mir l52) ∷ ‵ (froom tyBool l51 0) ∷ ‵ (fdies tyBool l51) ∷ ‵ (froom tyPtr l50 0) ∷ ‵ (fdies tyPtr l50) ∷ ‵ (froom tyPtr l49 0) ∷ ‵ (fdies tyPtr l49) ∷ ‵ (froom tyPtr l48 0) ∷ ‵ (fdies tyPtr l48) ∷ ‵ (froom tyPtr l47 0) ∷ ‵ (fdies tyPtr l47) ∷ ‵ (froom MMasterWords′.mir l46 0) ∷ ‵ (fdies MMasterWords′.mir l46) ∷ ‵ (froom tyPtr l45 0) ∷ ‵ (fdies tyPtr l45) ∷ ‵ (froom MAnswerWords′.mir l44 0) ∷ ‵ (fdies MAnswerWords′.mir l44) ∷ ‵ (froom (tyInt w64) l43 0) ∷ ‵ (fdies (tyInt w64) l43) ∷ ‵ (froom MAnswerWords′.mir l42 0) ∷ ‵ (fdies MAnswerWords′.mir l42) ∷ ‵ (froom tyBool l41 0) ∷ ‵ (fdies tyBool l41) ∷ ‵ (froom (sliceTy (tyRef erased mut (tyInt w8))) l40 0) ∷ ‵ (fdies (sliceTy (tyRef erased mut (tyInt w8))) l40) ∷ ‵ (froom (tyRef erased mut (tyInt w8)) l39 0) ∷ ‵ (fdies (tyRef erased mut (tyInt w8)) l39) ∷ ‵ (froom (tyInt w16) l38 0) ∷ ‵ (fdies (tyInt w16) l38) ∷ ‵ (froom (tyInt w8) l37 0) ∷ ‵ (fdies (tyInt w8) l37) ∷ ‵ (froom MServo′.mir l36 0) ∷ ‵ (fdies MServo′.mir l36) ∷ ‵ (froom tyBool l35 0) ∷ ‵ (fdies tyBool l35) ∷ ‵ (froom tyBool l34 0) ∷ ‵ (fdies tyBool l34) ∷ ‵ (froom MAccepted′.mir l33 0) ∷ ‵ (fdies MAccepted′.mir l33) ∷ ‵ (froom MServo′.mir l32 0) ∷ ‵ (fdies MServo′.mir l32) ∷ ‵ (froom tyBool l31 0) ∷ ‵ (fdies tyBool l31) ∷ ‵ (froom MTold′.mir l30 0) ∷ ‵ (fdies MTold′.mir l30) ∷ ‵ (froom MDelaysWords′.mir l29 0) ∷ ‵ (fdies MDelaysWords′.mir l29) ∷ ‵ (froom MHalvesWords′.mir l28 0) ∷ ‵ (fdies MHalvesWords′.mir l28) ∷ ‵ (froom MEmptied′.mir l27 0) ∷ ‵ (fdies MEmptied′.mir l27) ∷ ‵ (froom tyBool l26 0) ∷ ‵ (fdies tyBool l26) ∷ ‵ (froom MHeld′.mir l25 0) ∷ ‵ (fdies MHeld′.mir l25) ∷ ‵ (froom MMasterWords′.mir l24 0) ∷ ‵ (fdies MMasterWords′.mir l24) ∷ ‵ (froom (tyInt w64) l23 0) ∷ ‵ (fdies (tyInt w64) l23) ∷ ‵ (froom tyBool l22 0) ∷ ‵ (fdies tyBool l22) ∷ ‵ (froom MSeat′.mir l21 0) ∷ ‵ (fdies MSeat′.mir l21) ∷ ‵ (froom MLooked′.mir l20 0) ∷ ‵ (fdies MLooked′.mir l20) ∷ ‵ (froom MLooked′.mir l19 0) ∷ ‵ (fdies MLooked′.mir l19) ∷ ‵ (froom MLooked′.mir l18 0) ∷ ‵ (fdies MLooked′.mir l18) ∷ ‵ (froom MLooked′.mir l17 0) ∷ ‵ (fdies MLooked′.mir l17) ∷ ‵ (froom MLooked′.mir l16 0) ∷ ‵ (fdies MLooked′.mir l16) ∷ ‵ (froom (tyInt w32) l15 0) ∷ ‵ (fdies (tyInt w32) l15) ∷ ‵ (froom tyBool l14 0) ∷ ‵ (fdies tyBool l14) ∷ ‵ (froom MStateWords′.mir l13 0) ∷ ‵ (fdies MStateWords′.mir l13) ∷ ‵ (froom MSettingsWords′.mir l12 0) ∷ ‵ (fdies MSettingsWords′.mir l12) ∷ ‵ (froom MMessage′.mir l11 0) ∷ ‵ (fdies MMessage′.mir l11) ∷ ‵ (froom tyBool l10 0) ∷ ‵ (fdies tyBool l10) ∷ ‵ (froom MReceived′.mir l9 0) ∷ ‵ (fdies MReceived′.mir l9) ∷ ‵ (froom (tyRef (named 5) mut (pointee (R-AnswerWords .written))) l8 0) ∷ ‵ (fdies (tyRef (named 5) mut (pointee (R-AnswerWords .written))) l8) ∷ ‵ (froom MStamp′.mir l7 0) ∷ ‵ (fdies MStamp′.mir l7) ∷ ‵ (froom (tyInt w64) l6 0) ∷ ‵ (fdies (tyInt w64) l6) ∷ ‵ (froom (sliceTy (tyRef (named 4) mut (tyInt w8))) l5 0) ∷ ‵ (fdies (sliceTy (tyRef (named 4) mut (tyInt w8))) l5) ∷ ‵ (froom (tyRef (named 3) mut (pointee (R-Watch .written))) l4 0) ∷ ‵ (fdies (tyRef (named 3) mut (pointee (R-Watch .written))) l4) ∷ ‵ (froom (sliceTy (tyRef (named 2) mut (pointee (R-MasterWords .written)))) l3 0) ∷ ‵ (fdies (sliceTy (tyRef (named 2) mut (pointee (R-MasterWords .written)))) l3) ∷ ‵ (froom (tyRef (named 1) mut (pointee (R-Servo .written))) l2 0) ∷ ‵ (fdies (tyRef (named 1) mut (pointee (R-Servo .written))) l2) ∷ ‵ (froom (tyRef (named 0) mut (pointee (R-UnitWords .written))) l1 0) ∷ ‵ (fdies (tyRef (named 0) mut (pointee (R-UnitWords .written))) l1) ∷ ‵ (froom tyUnit l0 0) ∷ ‵ (fdies tyUnit l0) ∷ []) (runs C Λ En i-15-20-3 qq)
       from-15-20-3 qq ee zs-8 len-9 p-4 w-3 e-6 is-7 left1 good u-24 g-25 u-28 g-29 held2 p-31 w-30 e-32 is-33 g-34 p-36 w-35 e-37 is-38 g-39 p-41 w-40 e-42 is-43 g-44 p-46 w-45 e-47 is-48 g-49 p-51 w-50 e-52 is-53 g-54 p-56 w-55 e-57 is-58 p-60 w-59 e-61 is-62 held3 p-64 w-63 e-65 is-66 =
-          assigns ! (of-opd ! (unit-lit !)) (from ! (stop !)) (init ! 143 refl (tt, tt)) $
-          returns-within ! Post ee (look ! 143 refl) $
-          forget ! 143 refl $
-          move ! (143 ∷ 144 ∷ 141 ∷ 142 ∷ 139 ∷ 140 ∷ 137 ∷ 138 ∷ 135 ∷ 136 ∷ 133 ∷ 134 ∷ 131 ∷ 132 ∷ 129 ∷ 130 ∷ 127 ∷ 128 ∷ 125 ∷ 126 ∷ 123 ∷ 124 ∷ 121 ∷ 122 ∷ 119 ∷ 120 ∷ 117 ∷ 118 ∷ 115 ∷ 116 ∷ 113 ∷ 114 ∷ 111 ∷ 112 ∷ 109 ∷ 110 ∷ 107 ∷ 108 ∷ 105 ∷ 106 ∷ 103 ∷ 104 ∷ 101 ∷ 102 ∷ 99 ∷ 100 ∷ 97 ∷ 98 ∷ 95 ∷ 96 ∷ 93 ∷ 94 ∷ 91 ∷ 92 ∷ 89 ∷ 90 ∷ 87 ∷ 88 ∷ 85 ∷ 86 ∷ 83 ∷ 84 ∷ 81 ∷ 82 ∷ 79 ∷ 80 ∷ 77 ∷ 78 ∷ 75 ∷ 76 ∷ 73 ∷ 74 ∷ 71 ∷ 72 ∷ 69 ∷ 70 ∷ 67 ∷ 68 ∷ 65 ∷ 66 ∷ 63 ∷ 64 ∷ 61 ∷ 62 ∷ 59 ∷ 60 ∷ 57 ∷ 58 ∷ 55 ∷ 56 ∷ 53 ∷ 54 ∷ 51 ∷ 52 ∷ 49 ∷ 50 ∷ 47 ∷ 48 ∷ 45 ∷ 46 ∷ 43 ∷ 44 ∷ 41 ∷ 42 ∷ 39 ∷ 40 ∷ 37 ∷ 38 ∷ 35 ∷ 36 ∷ 33 ∷ 34 ∷ 31 ∷ 32 ∷ 29 ∷ 30 ∷ 27 ∷ 28 ∷ 25 ∷ 26 ∷ 23 ∷ 24 ∷ 21 ∷ 22 ∷ []) $
+          assigns ! (of-opd ! (unit-lit !)) (from ! (stop !)) (init ! 151 refl (tt, tt)) $
+          returns-within ! Post ee (look ! 151 refl) $
+          forget ! 151 refl $
+          move ! (151 ∷ 152 ∷ 149 ∷ 150 ∷ 147 ∷ 148 ∷ 145 ∷ 146 ∷ 143 ∷ 144 ∷ 141 ∷ 142 ∷ 139 ∷ 140 ∷ 137 ∷ 138 ∷ 135 ∷ 136 ∷ 133 ∷ 134 ∷ 131 ∷ 132 ∷ 129 ∷ 130 ∷ 127 ∷ 128 ∷ 125 ∷ 126 ∷ 123 ∷ 124 ∷ 121 ∷ 122 ∷ 119 ∷ 120 ∷ 117 ∷ 118 ∷ 115 ∷ 116 ∷ 113 ∷ 114 ∷ 111 ∷ 112 ∷ 109 ∷ 110 ∷ 107 ∷ 108 ∷ 105 ∷ 106 ∷ 103 ∷ 104 ∷ 101 ∷ 102 ∷ 99 ∷ 100 ∷ 97 ∷ 98 ∷ 95 ∷ 96 ∷ 93 ∷ 94 ∷ 91 ∷ 92 ∷ 89 ∷ 90 ∷ 87 ∷ 88 ∷ 85 ∷ 86 ∷ 83 ∷ 84 ∷ 81 ∷ 82 ∷ 79 ∷ 80 ∷ 77 ∷ 78 ∷ 75 ∷ 76 ∷ 73 ∷ 74 ∷ 71 ∷ 72 ∷ 69 ∷ 70 ∷ 67 ∷ 68 ∷ 65 ∷ 66 ∷ 63 ∷ 64 ∷ 61 ∷ 62 ∷ 59 ∷ 60 ∷ 57 ∷ 58 ∷ 55 ∷ 56 ∷ 53 ∷ 54 ∷ 51 ∷ 52 ∷ 49 ∷ 50 ∷ 47 ∷ 48 ∷ 45 ∷ 46 ∷ 43 ∷ 44 ∷ 41 ∷ 42 ∷ 39 ∷ 40 ∷ 37 ∷ 38 ∷ 35 ∷ 36 ∷ 33 ∷ 34 ∷ 31 ∷ 32 ∷ 29 ∷ 30 ∷ 27 ∷ 28 ∷ 25 ∷ 26 ∷ 23 ∷ 24 ∷ 21 ∷ 22 ∷ []) $
           freed _ _ (
           keep ! (6 ∷ 7 ∷ 8 ∷ 19 ∷ 20 ∷ 12 ∷ 3 ∷ 4 ∷ 5 ∷ 16 ∷ 17 ∷ 11 ∷ 9 ∷ 10 ∷ 0 ∷ 1 ∷ 2 ∷ 15 ∷ 14 ∷ 13 ∷ []) $
           by ! (exits-3 zs-8 len-9 p-4 w-3 e-6 is-7 left1 good u-24 g-25 u-28 g-29 held2 p-31 w-30 e-32 is-33 g-34 p-36 w-35 e-37 is-38 g-39 p-41 w-40 e-42 is-43 g-44 p-46 w-45 e-47 is-48 g-49 p-51 w-50 e-52 is-53 g-54 p-56 w-55 e-57 is-58 p-60 w-59 e-61 is-62 held3 p-64 w-63 e-65 is-66))
 
-      from-15-20-1 : (qq : Kit-Post 𝓤 H) (ee : post 𝓤 H qq returnsᴼ ≡ atReturn 𝓤 H En Post returnsᴼ) (zs-8 : List ℕ) (len-9 : length zs-8 ≡ length h5) (p-4 : SReceived.Received) (w-3 : Val) (e-6 : (p-4 ≡ receivedBy (readOf h5)) × (zs-8 ≡ h5)) (is-7 : Is R-Received p-4 (w-3 ∷ [])) (left1 : Holds (not (p-4 .barred))) (good : Holds (not (not (eqb (length h3) 5)))) (u-24 : Val) (g-25 : Is R-SettingsWords (h1 .settings) (u-24 ∷ [])) (u-28 : Val) (g-29 : Is R-StateWords (h1 .state) (u-28 ∷ [])) (held2 : Holds (p-4 .announces)) (p-31 : ℕ) (w-30 : Val) (e-32 : p-31 ≡ intervalOf ((h1 .settings) .announce)) (is-33 : Is R-u32 p-31 (w-30 ∷ [])) (g-34 : Is R-MasterWords (el 0) (v-MasterWords (el 0))) (p-36 : SLooked.Looked) (w-35 : Val) (e-37 : p-36 ≡ lookedOf (p-4 .message) h6 p-31 (recordIn (el 0))) (is-38 : Is R-Looked p-36 (w-35 ∷ [])) (g-39 : Is R-MasterWords (el 1) (v-MasterWords (el 1))) (p-41 : SLooked.Looked) (w-40 : Val) (e-42 : p-41 ≡ lookedOf (p-4 .message) h6 p-31 (recordIn (el 1))) (is-43 : Is R-Looked p-41 (w-40 ∷ [])) (g-44 : Is R-MasterWords (el 2) (v-MasterWords (el 2))) (p-46 : SLooked.Looked) (w-45 : Val) (e-47 : p-46 ≡ lookedOf (p-4 .message) h6 p-31 (recordIn (el 2))) (is-48 : Is R-Looked p-46 (w-45 ∷ [])) (g-49 : Is R-MasterWords (el 3) (v-MasterWords (el 3))) (p-51 : SLooked.Looked) (w-50 : Val) (e-52 : p-51 ≡ lookedOf (p-4 .message) h6 p-31 (recordIn (el 3))) (is-53 : Is R-Looked p-51 (w-50 ∷ [])) (g-54 : Is R-MasterWords (el 4) (v-MasterWords (el 4))) (p-56 : SLooked.Looked) (w-55 : Val) (e-57 : p-56 ≡ lookedOf (p-4 .message) h6 p-31 (recordIn (el 4))) (is-58 : Is R-Looked p-56 (w-55 ∷ [])) (p-60 : SSeat.Seat) (w-59 : Val) (e-61 : p-60 ≡ seatBy (h1 .settings) (h1 .state) (p-4 .message) h6 (p-36 .standing) (p-41 .standing) (p-46 .standing) (p-51 .standing) (p-56 .standing)) (is-62 : Is R-Seat p-60 (w-59 ∷ [])) (held3 : Holds (p-60 .barred)) → Sq W (‵ (fobs γ3 (codedHoleys R-MasterWords .code (heres R-MasterWords h3))) ∷ ‵ (fbor κ3 (Held R-MasterWords (length h3) b3 o3 γ3)) ∷ ‵ (flft κ3 q3) ∷ ‵ (fobs γ1 (R-UnitWords .coded .code h1)) ∷ ‵ (fbor κ1 (Body (mem R-UnitWords) b1 o1 γ1)) ∷ ‵ (flft κ1 q1) ∷ ‵ (MutSlice (named 4) κ5 R-u8 .own (x5 zs-8) ((sliceVal (b5, o5) (length h5)) ∷ [])) ∷ ‵ (flft κ5 q5) ∷ ‵ (flft κ8 q8) ∷ ‵ (flft κ4 q4) ∷ ‵ (flft κ2 q2) ∷ ‵ (ftrue) ∷ ‵ (fobs γ8 (R-AnswerWords .coded .code h8)) ∷ ‵ (fbor κ8 (Body (mem R-AnswerWords) b8 o8 γ8)) ∷ ‵ (R-Stamp .own h7 (u7 ∷ [])) ∷ ‵ (R-u64 .own h6 (u6 ∷ [])) ∷ ‵ (fobs γ4 (R-Watch .coded .code h4)) ∷ ‵ (fbor κ4 (Body (mem R-Watch) b4 o4 γ4)) ∷ ‵ (at-slice R-MasterWords (x3 h3) ((sliceVal (b3, o3) (length h3)) ∷ [])) ∷ ‵ (fobs γ2 (R-Servo .coded .code h2)) ∷ ‵ (fbor κ2 (Body (mem R-Servo) b2 o2 γ2)) ∷ ‵ (froom (tyRef erased mut (pointee (R-u8x128 .written))) l61 0) ∷ ‵ (fdies (tyRef erased mut (pointee (R-u8x128 .written))) l61) ∷ ‵ (froom (tyRef erased mut (pointee (R-i32x128 .written))) l60 0) ∷ ‵ (fdies (tyRef erased mut (pointee (R-i32x128 .written))) l60) ∷ ‵ (froom (tyRef erased mut (pointee (R-i64x128 .written))) l59 0) ∷ ‵ (fdies (tyRef erased mut (pointee (R-i64x128 .written))) l59) ∷ ‵ (froom MHead′.mir l58 0) ∷ ‵ (fdies MHead′.mir l58) ∷ ‵ (froom MAnswerWords′.mir l57 0) ∷ ‵ (fdies MAnswerWords′.mir l57) ∷ ‵ (froom MAnswerWords′.mir l56 0) ∷ ‵ (fdies MAnswerWords′.mir l56) ∷ ‵ (froom (tyRef erased mut (pointee (R-u8x128 .written))) l55 0) ∷ ‵ (fdies (tyRef erased mut (pointee (R-u8x128 .written))) l55) ∷ ‵ (froom (tyRef erased mut (pointee (R-i32x128 .written))) l54 0) ∷ ‵ (fdies (tyRef erased mut (pointee (R-i32x128 .written))) l54) ∷ ‵ (froom (tyRef erased mut (pointee (R-i64x128 .written))) l53 0) ∷ ‵ (fdies (tyRef erased mut (pointee (R-i64x128 .written))) l53) ∷ ‵ (froom MHead′.mir l52 0) ∷ ‵ (fdies MHead′.mir l52) ∷ ‵ (froom tyPtr l51 0) ∷ ‵ (fdies tyPtr l51) ∷ ‵ (froom tyPtr l50 0) ∷ ‵ (fdies tyPtr l50) ∷ ‵ (froom (tyInt w64) l49 0) ∷ ‵ (fdies (tyInt w64) l49) ∷ ‵ (froom MAnswerWords′.mir l48 0) ∷ ‵ (fdies MAnswerWords′.mir l48) ∷ ‵ (froom tyBool l47 0) ∷ ‵ (fdies tyBool l47) ∷ ‵ (froom tyPtr l46 0) ∷ ‵ (fdies tyPtr l46) ∷ ‵ (froom tyPtr l45 0) ∷ ‵ (fdies tyPtr l45) ∷ ‵ (froom tyPtr l44 0) ∷ ‵ (fdies tyPtr l44) ∷ ‵ (froom tyPtr l43 0) ∷ ‵ (fdies tyPtr l43) ∷ ‵ (froom MMasterWords′.mir l42 0) ∷ ‵ (fdies MMasterWords′.mir l42) ∷ ‵ (froom tyPtr l41 0) ∷ ‵ (fdies tyPtr l41) ∷ ‵ (froom MAnswerWords′.mir l40 0) ∷ ‵ (fdies MAnswerWords′.mir l40) ∷ ‵ (froom (tyInt w64) l39 0) ∷ ‵ (fdies (tyInt w64) l39) ∷ ‵ (froom MAnswerWords′.mir l38 0) ∷ ‵ (fdies MAnswerWords′.mir l38) ∷ ‵ (froom tyBool l37 0) ∷ ‵ (fdies tyBool l37) ∷ ‵ (froom (sliceTy (tyRef erased mut (tyInt w8))) l36 0) ∷ ‵ (fdies (sliceTy (tyRef erased mut (tyInt w8))) l36) ∷ ‵ (froom (tyRef erased mut (tyInt w8)) l35 0) ∷ ‵ (fdies (tyRef erased mut (tyInt w8)) l35) ∷ ‵ (froom tyBool l34 0) ∷ ‵ (fdies tyBool l34) ∷ ‵ (froom MServo′.mir l33 0) ∷ ‵ (fdies MServo′.mir l33) ∷ ‵ (froom MServo′.mir l32 0) ∷ ‵ (fdies MServo′.mir l32) ∷ ‵ (froom tyBool l31 0) ∷ ‵ (fdies tyBool l31) ∷ ‵ (froom MTold′.mir l30 0) ∷ ‵ (fdies MTold′.mir l30) ∷ ‵ (froom MDelaysWords′.mir l29 0) ∷ ‵ (fdies MDelaysWords′.mir l29) ∷ ‵ (froom MHalvesWords′.mir l28 0) ∷ ‵ (fdies MHalvesWords′.mir l28) ∷ ‵ (froom MEmptied′.mir l27 0) ∷ ‵ (fdies MEmptied′.mir l27) ∷ ‵ (froom tyBool l26 0) ∷ ‵ (fdies tyBool l26) ∷ ‵ (froom MHeld′.mir l25 0) ∷ ‵ (fdies MHeld′.mir l25) ∷ ‵ (froom MMasterWords′.mir l24 0) ∷ ‵ (fdies MMasterWords′.mir l24) ∷ ‵ (froom (tyInt w64) l23 0) ∷ ‵ (fdies (tyInt w64) l23) ∷ ‵ (froom tyBool l22 0) ∷ ‵ (fdies tyBool l22) ∷ ‵ (fat fullShare MSeat′.mir l21 0 (vstruct (ofList ((parts-Seat p-60 w-59 is-62) .pu0 ∷ (parts-Seat p-60 w-59 is-62) .pu1 ∷ (parts-Seat p-60 w-59 is-62) .pu2 ∷ (parts-Seat p-60 w-59 is-62) .pu3 ∷ [])))) ∷ ‵ (fdies MSeat′.mir l21) ∷ ‵ (froom MLooked′.mir l20 0) ∷ ‵ (fdies MLooked′.mir l20) ∷ ‵ (froom MLooked′.mir l19 0) ∷ ‵ (fdies MLooked′.mir l19) ∷ ‵ (froom MLooked′.mir l18 0) ∷ ‵ (fdies MLooked′.mir l18) ∷ ‵ (froom MLooked′.mir l17 0) ∷ ‵ (fdies MLooked′.mir l17) ∷ ‵ (froom MLooked′.mir l16 0) ∷ ‵ (fdies MLooked′.mir l16) ∷ ‵ (froom (tyInt w32) l15 0) ∷ ‵ (fdies (tyInt w32) l15) ∷ ‵ (froom tyBool l14 0) ∷ ‵ (fdies tyBool l14) ∷ ‵ (froom MStateWords′.mir l13 0) ∷ ‵ (fdies MStateWords′.mir l13) ∷ ‵ (froom MSettingsWords′.mir l12 0) ∷ ‵ (fdies MSettingsWords′.mir l12) ∷ ‵ (froom MMessage′.mir l11 0) ∷ ‵ (fdies MMessage′.mir l11) ∷ ‵ (froom tyBool l10 0) ∷ ‵ (fdies tyBool l10) ∷ ‵ (froom MReceived′.mir l9 0) ∷ ‵ (fdies MReceived′.mir l9) ∷ ‵ (fat fullShare (tyRef (named 5) mut (pointee (R-AnswerWords .written))) l8 0 (vptr b8 o8)) ∷ ‵ (fdies (tyRef (named 5) mut (pointee (R-AnswerWords .written))) l8) ∷ ‵ (froom MStamp′.mir l7 0) ∷ ‵ (fdies MStamp′.mir l7) ∷ ‵ (froom (tyInt w64) l6 0) ∷ ‵ (fdies (tyInt w64) l6) ∷ ‵ (froom (sliceTy (tyRef (named 4) mut (tyInt w8))) l5 0) ∷ ‵ (fdies (sliceTy (tyRef (named 4) mut (tyInt w8))) l5) ∷ ‵ (froom (tyRef (named 3) mut (pointee (R-Watch .written))) l4 0) ∷ ‵ (fdies (tyRef (named 3) mut (pointee (R-Watch .written))) l4) ∷ ‵ (froom (sliceTy (tyRef (named 2) mut (pointee (R-MasterWords .written)))) l3 0) ∷ ‵ (fdies (sliceTy (tyRef (named 2) mut (pointee (R-MasterWords .written)))) l3) ∷ ‵ (froom (tyRef (named 1) mut (pointee (R-Servo .written))) l2 0) ∷ ‵ (fdies (tyRef (named 1) mut (pointee (R-Servo .written))) l2) ∷ ‵ (froom (tyRef (named 0) mut (pointee (R-UnitWords .written))) l1 0) ∷ ‵ (fdies (tyRef (named 0) mut (pointee (R-UnitWords .written))) l1) ∷ ‵ (froom tyUnit l0 0) ∷ ‵ (fdies tyUnit l0) ∷ []) (runs C Λ En i-15-20-1 qq)
+      from-15-20-1 : (qq : Kit-Post 𝓤 H) (ee : post 𝓤 H qq returnsᴼ ≡ atReturn 𝓤 H En Post returnsᴼ) (zs-8 : List ℕ) (len-9 : length zs-8 ≡ length h5) (p-4 : SReceived.Received) (w-3 : Val) (e-6 : (p-4 ≡ receivedBy (readOf h5)) × (zs-8 ≡ h5)) (is-7 : Is R-Received p-4 (w-3 ∷ [])) (left1 : Holds (not (p-4 .barred))) (good : Holds (not (not (eqb (length h3) 5)))) (u-24 : Val) (g-25 : Is R-SettingsWords (h1 .settings) (u-24 ∷ [])) (u-28 : Val) (g-29 : Is R-StateWords (h1 .state) (u-28 ∷ [])) (held2 : Holds (p-4 .announces)) (p-31 : ℕ) (w-30 : Val) (e-32 : p-31 ≡ intervalOf ((h1 .settings) .announce)) (is-33 : Is R-u32 p-31 (w-30 ∷ [])) (g-34 : Is R-MasterWords (el 0) (v-MasterWords (el 0))) (p-36 : SLooked.Looked) (w-35 : Val) (e-37 : p-36 ≡ lookedOf (p-4 .message) h6 p-31 (recordIn (el 0))) (is-38 : Is R-Looked p-36 (w-35 ∷ [])) (g-39 : Is R-MasterWords (el 1) (v-MasterWords (el 1))) (p-41 : SLooked.Looked) (w-40 : Val) (e-42 : p-41 ≡ lookedOf (p-4 .message) h6 p-31 (recordIn (el 1))) (is-43 : Is R-Looked p-41 (w-40 ∷ [])) (g-44 : Is R-MasterWords (el 2) (v-MasterWords (el 2))) (p-46 : SLooked.Looked) (w-45 : Val) (e-47 : p-46 ≡ lookedOf (p-4 .message) h6 p-31 (recordIn (el 2))) (is-48 : Is R-Looked p-46 (w-45 ∷ [])) (g-49 : Is R-MasterWords (el 3) (v-MasterWords (el 3))) (p-51 : SLooked.Looked) (w-50 : Val) (e-52 : p-51 ≡ lookedOf (p-4 .message) h6 p-31 (recordIn (el 3))) (is-53 : Is R-Looked p-51 (w-50 ∷ [])) (g-54 : Is R-MasterWords (el 4) (v-MasterWords (el 4))) (p-56 : SLooked.Looked) (w-55 : Val) (e-57 : p-56 ≡ lookedOf (p-4 .message) h6 p-31 (recordIn (el 4))) (is-58 : Is R-Looked p-56 (w-55 ∷ [])) (p-60 : SSeat.Seat) (w-59 : Val) (e-61 : p-60 ≡ seatBy (h1 .settings) (h1 .state) (p-4 .message) h6 (p-36 .standing) (p-41 .standing) (p-46 .standing) (p-51 .standing) (p-56 .standing)) (is-62 : Is R-Seat p-60 (w-59 ∷ [])) (held3 : Holds (p-60 .barred)) → Sq W (‵ (fobs γ3 (codedHoleys R-MasterWords .code (heres R-MasterWords h3))) ∷ ‵ (fbor κ3 (Held R-MasterWords (length h3) b3 o3 γ3)) ∷ ‵ (flft κ3 q3) ∷ ‵ (fobs γ1 (R-UnitWords .coded .code h1)) ∷ ‵ (fbor κ1 (Body (mem R-UnitWords) b1 o1 γ1)) ∷ ‵ (flft κ1 q1) ∷ ‵ (MutSlice (named 4) κ5 R-u8 .own (x5 zs-8) ((sliceVal (b5, o5) (length h5)) ∷ [])) ∷ ‵ (flft κ5 q5) ∷ ‵ (flft κ8 q8) ∷ ‵ (flft κ4 q4) ∷ ‵ (flft κ2 q2) ∷ ‵ (ftrue) ∷ ‵ (fobs γ8 (R-AnswerWords .coded .code h8)) ∷ ‵ (fbor κ8 (Body (mem R-AnswerWords) b8 o8 γ8)) ∷ ‵ (R-Stamp .own h7 (u7 ∷ [])) ∷ ‵ (R-u64 .own h6 (u6 ∷ [])) ∷ ‵ (fobs γ4 (R-Watch .coded .code h4)) ∷ ‵ (fbor κ4 (Body (mem R-Watch) b4 o4 γ4)) ∷ ‵ (at-slice R-MasterWords (x3 h3) ((sliceVal (b3, o3) (length h3)) ∷ [])) ∷ ‵ (fobs γ2 (R-Servo .coded .code h2)) ∷ ‵ (fbor κ2 (Body (mem R-Servo) b2 o2 γ2)) ∷ ‵ (froom (tyRef erased mut (pointee (R-u8x128 .written))) l65 0) ∷ ‵ (fdies (tyRef erased mut (pointee (R-u8x128 .written))) l65) ∷ ‵ (froom (tyRef erased mut (pointee (R-i32x128 .written))) l64 0) ∷ ‵ (fdies (tyRef erased mut (pointee (R-i32x128 .written))) l64) ∷ ‵ (froom (tyRef erased mut (pointee (R-i64x128 .written))) l63 0) ∷ ‵ (fdies (tyRef erased mut (pointee (R-i64x128 .written))) l63) ∷ ‵ (froom MHead′.mir l62 0) ∷ ‵ (fdies MHead′.mir l62) ∷ ‵ (froom MAnswerWords′.mir l61 0) ∷ ‵ (fdies MAnswerWords′.mir l61) ∷ ‵ (froom MAnswerWords′.mir l60 0) ∷ ‵ (fdies MAnswerWords′.mir l60) ∷ ‵ (froom (tyRef erased mut (pointee (R-u8x128 .written))) l59 0) ∷ ‵ (fdies (tyRef erased mut (pointee (R-u8x128 .written))) l59) ∷ ‵ (froom (tyRef erased mut (pointee (R-i32x128 .written))) l58 0) ∷ ‵ (fdies (tyRef erased mut (pointee (R-i32x128 .written))) l58) ∷ ‵ (froom (tyRef erased mut (pointee (R-i64x128 .written))) l57 0) ∷ ‵ (fdies (tyRef erased mut (pointee (R-i64x128 .written))) l57) ∷ ‵ (froom MHead′.mir l56 0) ∷ ‵ (fdies MHead′.mir l56) ∷ ‵ (froom tyPtr l55 0) ∷ ‵ (fdies tyPtr l55) ∷ ‵ (froom tyPtr l54 0) ∷ ‵ (fdies tyPtr l54) ∷ ‵ (froom (tyInt w64) l53 0) ∷ ‵ (fdies (tyInt w64) l53) ∷ ‵ (froom MAnswerWords′.mir l52 0) ∷ ‵ (fdies MAnswerWords′.mir l52) ∷ ‵ (froom tyBool l51 0) ∷ ‵ (fdies tyBool l51) ∷ ‵ (froom tyPtr l50 0) ∷ ‵ (fdies tyPtr l50) ∷ ‵ (froom tyPtr l49 0) ∷ ‵ (fdies tyPtr l49) ∷ ‵ (froom tyPtr l48 0) ∷ ‵ (fdies tyPtr l48) ∷ ‵ (froom tyPtr l47 0) ∷ ‵ (fdies tyPtr l47) ∷ ‵ (froom MMasterWords′.mir l46 0) ∷ ‵ (fdies MMasterWords′.mir l46) ∷ ‵ (froom tyPtr l45 0) ∷ ‵ (fdies tyPtr l45) ∷ ‵ (froom MAnswerWords′.mir l44 0) ∷ ‵ (fdies MAnswerWords′.mir l44) ∷ ‵ (froom (tyInt w64) l43 0) ∷ ‵ (fdies (tyInt w64) l43) ∷ ‵ (froom MAnswerWords′.mir l42 0) ∷ ‵ (fdies MAnswerWords′.mir l42) ∷ ‵ (froom tyBool l41 0) ∷ ‵ (fdies tyBool l41) ∷ ‵ (froom (sliceTy (tyRef erased mut (tyInt w8))) l40 0) ∷ ‵ (fdies (sliceTy (tyRef erased mut (tyInt w8))) l40) ∷ ‵ (froom (tyRef erased mut (tyInt w8)) l39 0) ∷ ‵ (fdies (tyRef erased mut (tyInt w8)) l39) ∷ ‵ (froom (tyInt w16) l38 0) ∷ ‵ (fdies (tyInt w16) l38) ∷ ‵ (froom (tyInt w8) l37 0) ∷ ‵ (fdies (tyInt w8) l37) ∷ ‵ (froom MServo′.mir l36 0) ∷ ‵ (fdies MServo′.mir l36) ∷ ‵ (froom tyBool l35 0) ∷ ‵ (fdies tyBool l35) ∷ ‵ (froom tyBool l34 0) ∷ ‵ (fdies tyBool l34) ∷ ‵ (froom MAccepted′.mir l33 0) ∷ ‵ (fdies MAccepted′.mir l33) ∷ ‵ (froom MServo′.mir l32 0) ∷ ‵ (fdies MServo′.mir l32) ∷ ‵ (froom tyBool l31 0) ∷ ‵ (fdies tyBool l31) ∷ ‵ (froom MTold′.mir l30 0) ∷ ‵ (fdies MTold′.mir l30) ∷ ‵ (froom MDelaysWords′.mir l29 0) ∷ ‵ (fdies MDelaysWords′.mir l29) ∷ ‵ (froom MHalvesWords′.mir l28 0) ∷ ‵ (fdies MHalvesWords′.mir l28) ∷ ‵ (froom MEmptied′.mir l27 0) ∷ ‵ (fdies MEmptied′.mir l27) ∷ ‵ (froom tyBool l26 0) ∷ ‵ (fdies tyBool l26) ∷ ‵ (froom MHeld′.mir l25 0) ∷ ‵ (fdies MHeld′.mir l25) ∷ ‵ (froom MMasterWords′.mir l24 0) ∷ ‵ (fdies MMasterWords′.mir l24) ∷ ‵ (froom (tyInt w64) l23 0) ∷ ‵ (fdies (tyInt w64) l23) ∷ ‵ (froom tyBool l22 0) ∷ ‵ (fdies tyBool l22) ∷ ‵ (fat fullShare MSeat′.mir l21 0 (vstruct (ofList ((parts-Seat p-60 w-59 is-62) .pu0 ∷ (parts-Seat p-60 w-59 is-62) .pu1 ∷ (parts-Seat p-60 w-59 is-62) .pu2 ∷ (parts-Seat p-60 w-59 is-62) .pu3 ∷ [])))) ∷ ‵ (fdies MSeat′.mir l21) ∷ ‵ (froom MLooked′.mir l20 0) ∷ ‵ (fdies MLooked′.mir l20) ∷ ‵ (froom MLooked′.mir l19 0) ∷ ‵ (fdies MLooked′.mir l19) ∷ ‵ (froom MLooked′.mir l18 0) ∷ ‵ (fdies MLooked′.mir l18) ∷ ‵ (froom MLooked′.mir l17 0) ∷ ‵ (fdies MLooked′.mir l17) ∷ ‵ (froom MLooked′.mir l16 0) ∷ ‵ (fdies MLooked′.mir l16) ∷ ‵ (froom (tyInt w32) l15 0) ∷ ‵ (fdies (tyInt w32) l15) ∷ ‵ (froom tyBool l14 0) ∷ ‵ (fdies tyBool l14) ∷ ‵ (froom MStateWords′.mir l13 0) ∷ ‵ (fdies MStateWords′.mir l13) ∷ ‵ (froom MSettingsWords′.mir l12 0) ∷ ‵ (fdies MSettingsWords′.mir l12) ∷ ‵ (froom MMessage′.mir l11 0) ∷ ‵ (fdies MMessage′.mir l11) ∷ ‵ (froom tyBool l10 0) ∷ ‵ (fdies tyBool l10) ∷ ‵ (froom MReceived′.mir l9 0) ∷ ‵ (fdies MReceived′.mir l9) ∷ ‵ (fat fullShare (tyRef (named 5) mut (pointee (R-AnswerWords .written))) l8 0 (vptr b8 o8)) ∷ ‵ (fdies (tyRef (named 5) mut (pointee (R-AnswerWords .written))) l8) ∷ ‵ (froom MStamp′.mir l7 0) ∷ ‵ (fdies MStamp′.mir l7) ∷ ‵ (froom (tyInt w64) l6 0) ∷ ‵ (fdies (tyInt w64) l6) ∷ ‵ (froom (sliceTy (tyRef (named 4) mut (tyInt w8))) l5 0) ∷ ‵ (fdies (sliceTy (tyRef (named 4) mut (tyInt w8))) l5) ∷ ‵ (froom (tyRef (named 3) mut (pointee (R-Watch .written))) l4 0) ∷ ‵ (fdies (tyRef (named 3) mut (pointee (R-Watch .written))) l4) ∷ ‵ (froom (sliceTy (tyRef (named 2) mut (pointee (R-MasterWords .written)))) l3 0) ∷ ‵ (fdies (sliceTy (tyRef (named 2) mut (pointee (R-MasterWords .written)))) l3) ∷ ‵ (froom (tyRef (named 1) mut (pointee (R-Servo .written))) l2 0) ∷ ‵ (fdies (tyRef (named 1) mut (pointee (R-Servo .written))) l2) ∷ ‵ (froom (tyRef (named 0) mut (pointee (R-UnitWords .written))) l1 0) ∷ ‵ (fdies (tyRef (named 0) mut (pointee (R-UnitWords .written))) l1) ∷ ‵ (froom tyUnit l0 0) ∷ ‵ (fdies tyUnit l0) ∷ []) (runs C Λ En i-15-20-1 qq)
       from-15-20-1 qq ee zs-8 len-9 p-4 w-3 e-6 is-7 left1 good u-24 g-25 u-28 g-29 held2 p-31 w-30 e-32 is-33 g-34 p-36 w-35 e-37 is-38 g-39 p-41 w-40 e-42 is-43 g-44 p-46 w-45 e-47 is-48 g-49 p-51 w-50 e-52 is-53 g-54 p-56 w-55 e-57 is-58 p-60 w-59 e-61 is-62 held3 =
-          rewrite ! 101 (λ (u : Val). ‵ (fat fullShare MSeat′.mir l21 0 u)) (sym (parts-Seat p-60 w-59 is-62 .whole-is)) refl $
+          rewrite ! 109 (λ (u : Val). ‵ (fat fullShare MSeat′.mir l21 0 u)) (sym (parts-Seat p-60 w-59 is-62 .whole-is)) refl $
           use0 W (raw (C-unseated 𝓤 H A at-mem run .pre (to-unseated p-60 w-59))) (goes-unseated p-60 w-59 is-62) $
-          calls-at ! fm (C-unseated 𝓤 H A at-mem run) known-unseated (to-unseated p-60 w-59) (and-then ! (load ! (from ! (stop !)) (look ! 102 refl)) (no-more !)) (λ w-63.
+          calls-at ! fm (C-unseated 𝓤 H A at-mem run) known-unseated (to-unseated p-60 w-59) (and-then ! (load ! (from ! (stop !)) (look ! 110 refl)) (no-more !)) (λ w-63.
           use1 W (later (some (λ (p-64 : SAnswerWords.AnswerWords). (‵ ftrue ⊛ ‵ (R-AnswerWords .own p-64 (w-63 ∷ []))) ⊛ raw (ensured 𝓤 H A f-unseated.ended (f-unseated.clauses 𝓤 H A at-mem run) tt (p-60, tt) tt p-64)))) (id⊢ 𝓤 _) $ await ! tt $
           pick ! (λ p-64.
           split ! $
@@ -1958,29 +1958,29 @@ module _ {M : Type 1} (𝓤 : URA M) (H : Heap 𝓤) (A : Atoms 𝓤) (W : Given
           peeks ! R-AnswerWords (Is R-AnswerWords) (shows 𝓤 H A R-AnswerWords) h8 vs-67 (λ g-68.
           rewrite ! 0 (λ (us : List Val). ‵ (R-AnswerWords .own h8 us)) (lone-AnswerWords h8 vs-67 g-68) refl $
           rewrite ! 1 (λ (us : List Val). ‵ (cellAt fullShare (R-AnswerWords .mir) us b8 o8)) (lone-AnswerWords h8 vs-67 g-68) refl $
-          assigns ! (of-opd ! (load ! (from ! (stop !)) (look ! 49 refl))) (from ! (hop ! (look ! 129 refl) (stop !))) (store-raw ! 1 refl (lawful-AnswerWords 𝓤 H A W .typed p-64 _ is-66 .0)) $
+          assigns ! (of-opd ! (load ! (from ! (stop !)) (look ! 49 refl))) (from ! (hop ! (look ! 137 refl) (stop !))) (store-raw ! 1 refl (lawful-AnswerWords 𝓤 H A W .typed p-64 _ is-66 .0)) $
           drop ! $
           owned ! R-AnswerWords (Is R-AnswerWords) (makes-AnswerWords 𝓤 H A W) p-64 _ is-66 $
           move ! (1 ∷ 0 ∷ 2 ∷ 3 ∷ 4 ∷ []) $
           closes ! tt R-AnswerWords p-64 (w-63 ∷ []) b8 o8 $
-          forget ! 127 refl $ forget ! 101 refl $ forget ! 47 refl $
+          forget ! 135 refl $ forget ! 109 refl $ forget ! 47 refl $
           from-15-20-3 qq ee zs-8 len-9 p-4 w-3 e-6 is-7 left1 good u-24 g-25 u-28 g-29 held2 p-31 w-30 e-32 is-33 g-34 p-36 w-35 e-37 is-38 g-39 p-41 w-40 e-42 is-43 g-44 p-46 w-45 e-47 is-48 g-49 p-51 w-50 e-52 is-53 g-54 p-56 w-55 e-57 is-58 p-60 w-59 e-61 is-62 held3 p-64 w-63 e-65 is-66))))))
 
-      from-15-34-10 : (qq : Kit-Post 𝓤 H) (ee : post 𝓤 H qq returnsᴼ ≡ atReturn 𝓤 H En Post returnsᴼ) (zs-8 : List ℕ) (len-9 : length zs-8 ≡ length h5) (p-4 : SReceived.Received) (w-3 : Val) (e-6 : (p-4 ≡ receivedBy (readOf h5)) × (zs-8 ≡ h5)) (is-7 : Is R-Received p-4 (w-3 ∷ [])) (left1 : Holds (not (p-4 .barred))) (good : Holds (not (not (eqb (length h3) 5)))) (u-24 : Val) (g-25 : Is R-SettingsWords (h1 .settings) (u-24 ∷ [])) (u-28 : Val) (g-29 : Is R-StateWords (h1 .state) (u-28 ∷ [])) (held2 : Holds (p-4 .announces)) (p-31 : ℕ) (w-30 : Val) (e-32 : p-31 ≡ intervalOf ((h1 .settings) .announce)) (is-33 : Is R-u32 p-31 (w-30 ∷ [])) (g-34 : Is R-MasterWords (el 0) (v-MasterWords (el 0))) (p-36 : SLooked.Looked) (w-35 : Val) (e-37 : p-36 ≡ lookedOf (p-4 .message) h6 p-31 (recordIn (el 0))) (is-38 : Is R-Looked p-36 (w-35 ∷ [])) (g-39 : Is R-MasterWords (el 1) (v-MasterWords (el 1))) (p-41 : SLooked.Looked) (w-40 : Val) (e-42 : p-41 ≡ lookedOf (p-4 .message) h6 p-31 (recordIn (el 1))) (is-43 : Is R-Looked p-41 (w-40 ∷ [])) (g-44 : Is R-MasterWords (el 2) (v-MasterWords (el 2))) (p-46 : SLooked.Looked) (w-45 : Val) (e-47 : p-46 ≡ lookedOf (p-4 .message) h6 p-31 (recordIn (el 2))) (is-48 : Is R-Looked p-46 (w-45 ∷ [])) (g-49 : Is R-MasterWords (el 3) (v-MasterWords (el 3))) (p-51 : SLooked.Looked) (w-50 : Val) (e-52 : p-51 ≡ lookedOf (p-4 .message) h6 p-31 (recordIn (el 3))) (is-53 : Is R-Looked p-51 (w-50 ∷ [])) (g-54 : Is R-MasterWords (el 4) (v-MasterWords (el 4))) (p-56 : SLooked.Looked) (w-55 : Val) (e-57 : p-56 ≡ lookedOf (p-4 .message) h6 p-31 (recordIn (el 4))) (is-58 : Is R-Looked p-56 (w-55 ∷ [])) (p-60 : SSeat.Seat) (w-59 : Val) (e-61 : p-60 ≡ seatBy (h1 .settings) (h1 .state) (p-4 .message) h6 (p-36 .standing) (p-41 .standing) (p-46 .standing) (p-51 .standing) (p-56 .standing)) (is-62 : Is R-Seat p-60 (w-59 ∷ [])) (left3 : Holds (not (p-60 .barred))) (g-69 : Is R-MasterWords (el (p-60 .at)) (v-MasterWords (el (p-60 .at)))) (p-71 : SMasterWords.MasterWords) (w-70 : Val) (e-72 : p-71 ≡ placedOf (el (p-60 .at)) (p-4 .message) (p-60 .known) h6) (is-73 : Is R-MasterWords p-71 (w-70 ∷ [])) (p-75 : SHeld.Held) (w-74 : Val) (e-76 : p-75 ≡ heldOf (h1 .state) h6 (bestWith (p-60 .at) (candidateOf h6 p-31 (recordIn p-71)) (p-36 .candidate) (p-41 .candidate) (p-46 .candidate) (p-51 .candidate) (p-56 .candidate))) (is-77 : Is R-Held p-75 (w-74 ∷ [])) (held4 : Holds (p-75 .wipes)) (p-83 : SEmptied.Emptied) (w-82 : Val) (e-84 : p-83 ≡ emptiedOf (h1 .settings)) (is-85 : Is R-Emptied p-83 (w-82 ∷ [])) (zs-105 : (List ℤ)) (zs-106 : (List ℤ)) (zs-107 : (List ℕ)) (p-101 : SHead.Head) (w-100 : Val) (e-103 : (p-101 ≡ freshWatch .head) × (zs-105 ≡ freshWatch .references) × (zs-106 ≡ freshWatch .ys) × (zs-107 ≡ freshWatch .marks)) (is-104 : Is R-Head p-101 (w-100 ∷ [])) → Sq W (‵ (fobs γ4 (R-Watch .coded .code (with-Watch-0 (all-Watch (h4 .head) zs-105 zs-106 zs-107) p-101))) ∷ ‵ (fbor κ4 (Body (mem R-Watch) b4 o4 γ4)) ∷ ‵ (flft κ4 q4) ∷ ‵ (fobs γ2 (R-Servo .coded .code (p-83 .servo))) ∷ ‵ (fbor κ2 (Body (mem R-Servo) b2 o2 γ2)) ∷ ‵ (flft κ2 q2) ∷ ‵ (fobs γ1 (R-UnitWords .coded .code (with-UnitWords-3 (with-UnitWords-2 (with-UnitWords-1 h1 (p-75 .state)) (p-83 .halves)) (p-83 .delays)))) ∷ ‵ (fbor κ1 (Body (mem R-UnitWords) b1 o1 γ1)) ∷ ‵ (flft κ1 q1) ∷ ‵ (fobs γ8 (R-AnswerWords .coded .code (p-75 .answer))) ∷ ‵ (fbor κ8 (Body (mem R-AnswerWords) b8 o8 γ8)) ∷ ‵ (flft κ8 q8) ∷ ‵ (fobs γ3 (codedHoleys R-MasterWords .code (heres R-MasterWords (set h3 (p-60 .at) p-71)))) ∷ ‵ (fbor κ3 (Held R-MasterWords (length (set h3 (p-60 .at) p-71)) b3 o3 γ3)) ∷ ‵ (flft κ3 q3) ∷ ‵ (MutSlice (named 4) κ5 R-u8 .own (x5 zs-8) ((sliceVal (b5, o5) (length h5)) ∷ [])) ∷ ‵ (flft κ5 q5) ∷ ‵ (ftrue) ∷ ‵ (R-Stamp .own h7 (u7 ∷ [])) ∷ ‵ (R-u64 .own h6 (u6 ∷ [])) ∷ ‵ (at-slice R-MasterWords (x3 h3) ((sliceVal (b3, o3) (length h3)) ∷ [])) ∷ ‵ (froom (tyRef erased mut (pointee (R-u8x128 .written))) l61 0) ∷ ‵ (fdies (tyRef erased mut (pointee (R-u8x128 .written))) l61) ∷ ‵ (froom (tyRef erased mut (pointee (R-i32x128 .written))) l60 0) ∷ ‵ (fdies (tyRef erased mut (pointee (R-i32x128 .written))) l60) ∷ ‵ (froom (tyRef erased mut (pointee (R-i64x128 .written))) l59 0) ∷ ‵ (fdies (tyRef erased mut (pointee (R-i64x128 .written))) l59) ∷ ‵ (froom MHead′.mir l58 0) ∷ ‵ (fdies MHead′.mir l58) ∷ ‵ (froom MAnswerWords′.mir l57 0) ∷ ‵ (fdies MAnswerWords′.mir l57) ∷ ‵ (froom MAnswerWords′.mir l56 0) ∷ ‵ (fdies MAnswerWords′.mir l56) ∷ ‵ (froom (tyRef erased mut (pointee (R-u8x128 .written))) l55 0) ∷ ‵ (fdies (tyRef erased mut (pointee (R-u8x128 .written))) l55) ∷ ‵ (froom (tyRef erased mut (pointee (R-i32x128 .written))) l54 0) ∷ ‵ (fdies (tyRef erased mut (pointee (R-i32x128 .written))) l54) ∷ ‵ (froom (tyRef erased mut (pointee (R-i64x128 .written))) l53 0) ∷ ‵ (fdies (tyRef erased mut (pointee (R-i64x128 .written))) l53) ∷ ‵ (froom MHead′.mir l52 0) ∷ ‵ (fdies MHead′.mir l52) ∷ ‵ (froom tyPtr l51 0) ∷ ‵ (fdies tyPtr l51) ∷ ‵ (froom tyPtr l50 0) ∷ ‵ (fdies tyPtr l50) ∷ ‵ (froom (tyInt w64) l49 0) ∷ ‵ (fdies (tyInt w64) l49) ∷ ‵ (froom MAnswerWords′.mir l48 0) ∷ ‵ (fdies MAnswerWords′.mir l48) ∷ ‵ (froom tyBool l47 0) ∷ ‵ (fdies tyBool l47) ∷ ‵ (froom tyPtr l46 0) ∷ ‵ (fdies tyPtr l46) ∷ ‵ (froom tyPtr l45 0) ∷ ‵ (fdies tyPtr l45) ∷ ‵ (froom tyPtr l44 0) ∷ ‵ (fdies tyPtr l44) ∷ ‵ (froom tyPtr l43 0) ∷ ‵ (fdies tyPtr l43) ∷ ‵ (froom MMasterWords′.mir l42 0) ∷ ‵ (fdies MMasterWords′.mir l42) ∷ ‵ (froom tyPtr l41 0) ∷ ‵ (fdies tyPtr l41) ∷ ‵ (froom MAnswerWords′.mir l40 0) ∷ ‵ (fdies MAnswerWords′.mir l40) ∷ ‵ (froom (tyInt w64) l39 0) ∷ ‵ (fdies (tyInt w64) l39) ∷ ‵ (froom MAnswerWords′.mir l38 0) ∷ ‵ (fdies MAnswerWords′.mir l38) ∷ ‵ (froom tyBool l37 0) ∷ ‵ (fdies tyBool l37) ∷ ‵ (froom (sliceTy (tyRef erased mut (tyInt w8))) l36 0) ∷ ‵ (fdies (sliceTy (tyRef erased mut (tyInt w8))) l36) ∷ ‵ (froom (tyRef erased mut (tyInt w8)) l35 0) ∷ ‵ (fdies (tyRef erased mut (tyInt w8)) l35) ∷ ‵ (froom tyBool l34 0) ∷ ‵ (fdies tyBool l34) ∷ ‵ (froom MServo′.mir l33 0) ∷ ‵ (fdies MServo′.mir l33) ∷ ‵ (froom MServo′.mir l32 0) ∷ ‵ (fdies MServo′.mir l32) ∷ ‵ (froom tyBool l31 0) ∷ ‵ (fdies tyBool l31) ∷ ‵ (froom MTold′.mir l30 0) ∷ ‵ (fdies MTold′.mir l30) ∷ ‵ (froom MDelaysWords′.mir l29 0) ∷ ‵ (fdies MDelaysWords′.mir l29) ∷ ‵ (froom MHalvesWords′.mir l28 0) ∷ ‵ (fdies MHalvesWords′.mir l28) ∷ ‵ (froom MEmptied′.mir l27 0) ∷ ‵ (fdies MEmptied′.mir l27) ∷ ‵ (froom tyBool l26 0) ∷ ‵ (fdies tyBool l26) ∷ ‵ (froom MHeld′.mir l25 0) ∷ ‵ (fdies MHeld′.mir l25) ∷ ‵ (froom MMasterWords′.mir l24 0) ∷ ‵ (fdies MMasterWords′.mir l24) ∷ ‵ (froom (tyInt w64) l23 0) ∷ ‵ (fdies (tyInt w64) l23) ∷ ‵ (froom tyBool l22 0) ∷ ‵ (fdies tyBool l22) ∷ ‵ (froom MSeat′.mir l21 0) ∷ ‵ (fdies MSeat′.mir l21) ∷ ‵ (froom MLooked′.mir l20 0) ∷ ‵ (fdies MLooked′.mir l20) ∷ ‵ (froom MLooked′.mir l19 0) ∷ ‵ (fdies MLooked′.mir l19) ∷ ‵ (froom MLooked′.mir l18 0) ∷ ‵ (fdies MLooked′.mir l18) ∷ ‵ (froom MLooked′.mir l17 0) ∷ ‵ (fdies MLooked′.mir l17) ∷ ‵ (froom MLooked′.mir l16 0) ∷ ‵ (fdies MLooked′.mir l16) ∷ ‵ (froom (tyInt w32) l15 0) ∷ ‵ (fdies (tyInt w32) l15) ∷ ‵ (froom tyBool l14 0) ∷ ‵ (fdies tyBool l14) ∷ ‵ (froom MStateWords′.mir l13 0) ∷ ‵ (fdies MStateWords′.mir l13) ∷ ‵ (froom MSettingsWords′.mir l12 0) ∷ ‵ (fdies MSettingsWords′.mir l12) ∷ ‵ (froom MMessage′.mir l11 0) ∷ ‵ (fdies MMessage′.mir l11) ∷ ‵ (froom tyBool l10 0) ∷ ‵ (fdies tyBool l10) ∷ ‵ (froom MReceived′.mir l9 0) ∷ ‵ (fdies MReceived′.mir l9) ∷ ‵ (froom (tyRef (named 5) mut (pointee (R-AnswerWords .written))) l8 0) ∷ ‵ (fdies (tyRef (named 5) mut (pointee (R-AnswerWords .written))) l8) ∷ ‵ (froom MStamp′.mir l7 0) ∷ ‵ (fdies MStamp′.mir l7) ∷ ‵ (froom (tyInt w64) l6 0) ∷ ‵ (fdies (tyInt w64) l6) ∷ ‵ (froom (sliceTy (tyRef (named 4) mut (tyInt w8))) l5 0) ∷ ‵ (fdies (sliceTy (tyRef (named 4) mut (tyInt w8))) l5) ∷ ‵ (froom (tyRef (named 3) mut (pointee (R-Watch .written))) l4 0) ∷ ‵ (fdies (tyRef (named 3) mut (pointee (R-Watch .written))) l4) ∷ ‵ (froom (sliceTy (tyRef (named 2) mut (pointee (R-MasterWords .written)))) l3 0) ∷ ‵ (fdies (sliceTy (tyRef (named 2) mut (pointee (R-MasterWords .written)))) l3) ∷ ‵ (froom (tyRef (named 1) mut (pointee (R-Servo .written))) l2 0) ∷ ‵ (fdies (tyRef (named 1) mut (pointee (R-Servo .written))) l2) ∷ ‵ (froom (tyRef (named 0) mut (pointee (R-UnitWords .written))) l1 0) ∷ ‵ (fdies (tyRef (named 0) mut (pointee (R-UnitWords .written))) l1) ∷ ‵ (froom tyUnit l0 0) ∷ ‵ (fdies tyUnit l0) ∷ []) (runs C Λ En i-15-34-10 qq)
+      from-15-34-10 : (qq : Kit-Post 𝓤 H) (ee : post 𝓤 H qq returnsᴼ ≡ atReturn 𝓤 H En Post returnsᴼ) (zs-8 : List ℕ) (len-9 : length zs-8 ≡ length h5) (p-4 : SReceived.Received) (w-3 : Val) (e-6 : (p-4 ≡ receivedBy (readOf h5)) × (zs-8 ≡ h5)) (is-7 : Is R-Received p-4 (w-3 ∷ [])) (left1 : Holds (not (p-4 .barred))) (good : Holds (not (not (eqb (length h3) 5)))) (u-24 : Val) (g-25 : Is R-SettingsWords (h1 .settings) (u-24 ∷ [])) (u-28 : Val) (g-29 : Is R-StateWords (h1 .state) (u-28 ∷ [])) (held2 : Holds (p-4 .announces)) (p-31 : ℕ) (w-30 : Val) (e-32 : p-31 ≡ intervalOf ((h1 .settings) .announce)) (is-33 : Is R-u32 p-31 (w-30 ∷ [])) (g-34 : Is R-MasterWords (el 0) (v-MasterWords (el 0))) (p-36 : SLooked.Looked) (w-35 : Val) (e-37 : p-36 ≡ lookedOf (p-4 .message) h6 p-31 (recordIn (el 0))) (is-38 : Is R-Looked p-36 (w-35 ∷ [])) (g-39 : Is R-MasterWords (el 1) (v-MasterWords (el 1))) (p-41 : SLooked.Looked) (w-40 : Val) (e-42 : p-41 ≡ lookedOf (p-4 .message) h6 p-31 (recordIn (el 1))) (is-43 : Is R-Looked p-41 (w-40 ∷ [])) (g-44 : Is R-MasterWords (el 2) (v-MasterWords (el 2))) (p-46 : SLooked.Looked) (w-45 : Val) (e-47 : p-46 ≡ lookedOf (p-4 .message) h6 p-31 (recordIn (el 2))) (is-48 : Is R-Looked p-46 (w-45 ∷ [])) (g-49 : Is R-MasterWords (el 3) (v-MasterWords (el 3))) (p-51 : SLooked.Looked) (w-50 : Val) (e-52 : p-51 ≡ lookedOf (p-4 .message) h6 p-31 (recordIn (el 3))) (is-53 : Is R-Looked p-51 (w-50 ∷ [])) (g-54 : Is R-MasterWords (el 4) (v-MasterWords (el 4))) (p-56 : SLooked.Looked) (w-55 : Val) (e-57 : p-56 ≡ lookedOf (p-4 .message) h6 p-31 (recordIn (el 4))) (is-58 : Is R-Looked p-56 (w-55 ∷ [])) (p-60 : SSeat.Seat) (w-59 : Val) (e-61 : p-60 ≡ seatBy (h1 .settings) (h1 .state) (p-4 .message) h6 (p-36 .standing) (p-41 .standing) (p-46 .standing) (p-51 .standing) (p-56 .standing)) (is-62 : Is R-Seat p-60 (w-59 ∷ [])) (left3 : Holds (not (p-60 .barred))) (g-69 : Is R-MasterWords (el (p-60 .at)) (v-MasterWords (el (p-60 .at)))) (p-71 : SMasterWords.MasterWords) (w-70 : Val) (e-72 : p-71 ≡ placedOf (el (p-60 .at)) (p-4 .message) (p-60 .known) h6) (is-73 : Is R-MasterWords p-71 (w-70 ∷ [])) (p-75 : SHeld.Held) (w-74 : Val) (e-76 : p-75 ≡ heldOf (h1 .state) h6 (bestWith (p-60 .at) (candidateOf h6 p-31 (recordIn p-71)) (p-36 .candidate) (p-41 .candidate) (p-46 .candidate) (p-51 .candidate) (p-56 .candidate))) (is-77 : Is R-Held p-75 (w-74 ∷ [])) (held4 : Holds (p-75 .wipes)) (p-83 : SEmptied.Emptied) (w-82 : Val) (e-84 : p-83 ≡ emptiedOf (h1 .settings)) (is-85 : Is R-Emptied p-83 (w-82 ∷ [])) (zs-105 : (List ℤ)) (zs-106 : (List ℤ)) (zs-107 : (List ℕ)) (p-101 : SHead.Head) (w-100 : Val) (e-103 : (p-101 ≡ freshWatch .head) × (zs-105 ≡ freshWatch .references) × (zs-106 ≡ freshWatch .ys) × (zs-107 ≡ freshWatch .marks)) (is-104 : Is R-Head p-101 (w-100 ∷ [])) → Sq W (‵ (fobs γ4 (R-Watch .coded .code (with-Watch-0 (all-Watch (h4 .head) zs-105 zs-106 zs-107) p-101))) ∷ ‵ (fbor κ4 (Body (mem R-Watch) b4 o4 γ4)) ∷ ‵ (flft κ4 q4) ∷ ‵ (fobs γ2 (R-Servo .coded .code (p-83 .servo))) ∷ ‵ (fbor κ2 (Body (mem R-Servo) b2 o2 γ2)) ∷ ‵ (flft κ2 q2) ∷ ‵ (fobs γ1 (R-UnitWords .coded .code (with-UnitWords-3 (with-UnitWords-2 (with-UnitWords-1 h1 (p-75 .state)) (p-83 .halves)) (p-83 .delays)))) ∷ ‵ (fbor κ1 (Body (mem R-UnitWords) b1 o1 γ1)) ∷ ‵ (flft κ1 q1) ∷ ‵ (fobs γ8 (R-AnswerWords .coded .code (p-75 .answer))) ∷ ‵ (fbor κ8 (Body (mem R-AnswerWords) b8 o8 γ8)) ∷ ‵ (flft κ8 q8) ∷ ‵ (fobs γ3 (codedHoleys R-MasterWords .code (heres R-MasterWords (set h3 (p-60 .at) p-71)))) ∷ ‵ (fbor κ3 (Held R-MasterWords (length (set h3 (p-60 .at) p-71)) b3 o3 γ3)) ∷ ‵ (flft κ3 q3) ∷ ‵ (MutSlice (named 4) κ5 R-u8 .own (x5 zs-8) ((sliceVal (b5, o5) (length h5)) ∷ [])) ∷ ‵ (flft κ5 q5) ∷ ‵ (ftrue) ∷ ‵ (R-Stamp .own h7 (u7 ∷ [])) ∷ ‵ (R-u64 .own h6 (u6 ∷ [])) ∷ ‵ (at-slice R-MasterWords (x3 h3) ((sliceVal (b3, o3) (length h3)) ∷ [])) ∷ ‵ (froom (tyRef erased mut (pointee (R-u8x128 .written))) l65 0) ∷ ‵ (fdies (tyRef erased mut (pointee (R-u8x128 .written))) l65) ∷ ‵ (froom (tyRef erased mut (pointee (R-i32x128 .written))) l64 0) ∷ ‵ (fdies (tyRef erased mut (pointee (R-i32x128 .written))) l64) ∷ ‵ (froom (tyRef erased mut (pointee (R-i64x128 .written))) l63 0) ∷ ‵ (fdies (tyRef erased mut (pointee (R-i64x128 .written))) l63) ∷ ‵ (froom MHead′.mir l62 0) ∷ ‵ (fdies MHead′.mir l62) ∷ ‵ (froom MAnswerWords′.mir l61 0) ∷ ‵ (fdies MAnswerWords′.mir l61) ∷ ‵ (froom MAnswerWords′.mir l60 0) ∷ ‵ (fdies MAnswerWords′.mir l60) ∷ ‵ (froom (tyRef erased mut (pointee (R-u8x128 .written))) l59 0) ∷ ‵ (fdies (tyRef erased mut (pointee (R-u8x128 .written))) l59) ∷ ‵ (froom (tyRef erased mut (pointee (R-i32x128 .written))) l58 0) ∷ ‵ (fdies (tyRef erased mut (pointee (R-i32x128 .written))) l58) ∷ ‵ (froom (tyRef erased mut (pointee (R-i64x128 .written))) l57 0) ∷ ‵ (fdies (tyRef erased mut (pointee (R-i64x128 .written))) l57) ∷ ‵ (froom MHead′.mir l56 0) ∷ ‵ (fdies MHead′.mir l56) ∷ ‵ (froom tyPtr l55 0) ∷ ‵ (fdies tyPtr l55) ∷ ‵ (froom tyPtr l54 0) ∷ ‵ (fdies tyPtr l54) ∷ ‵ (froom (tyInt w64) l53 0) ∷ ‵ (fdies (tyInt w64) l53) ∷ ‵ (froom MAnswerWords′.mir l52 0) ∷ ‵ (fdies MAnswerWords′.mir l52) ∷ ‵ (froom tyBool l51 0) ∷ ‵ (fdies tyBool l51) ∷ ‵ (froom tyPtr l50 0) ∷ ‵ (fdies tyPtr l50) ∷ ‵ (froom tyPtr l49 0) ∷ ‵ (fdies tyPtr l49) ∷ ‵ (froom tyPtr l48 0) ∷ ‵ (fdies tyPtr l48) ∷ ‵ (froom tyPtr l47 0) ∷ ‵ (fdies tyPtr l47) ∷ ‵ (froom MMasterWords′.mir l46 0) ∷ ‵ (fdies MMasterWords′.mir l46) ∷ ‵ (froom tyPtr l45 0) ∷ ‵ (fdies tyPtr l45) ∷ ‵ (froom MAnswerWords′.mir l44 0) ∷ ‵ (fdies MAnswerWords′.mir l44) ∷ ‵ (froom (tyInt w64) l43 0) ∷ ‵ (fdies (tyInt w64) l43) ∷ ‵ (froom MAnswerWords′.mir l42 0) ∷ ‵ (fdies MAnswerWords′.mir l42) ∷ ‵ (froom tyBool l41 0) ∷ ‵ (fdies tyBool l41) ∷ ‵ (froom (sliceTy (tyRef erased mut (tyInt w8))) l40 0) ∷ ‵ (fdies (sliceTy (tyRef erased mut (tyInt w8))) l40) ∷ ‵ (froom (tyRef erased mut (tyInt w8)) l39 0) ∷ ‵ (fdies (tyRef erased mut (tyInt w8)) l39) ∷ ‵ (froom (tyInt w16) l38 0) ∷ ‵ (fdies (tyInt w16) l38) ∷ ‵ (froom (tyInt w8) l37 0) ∷ ‵ (fdies (tyInt w8) l37) ∷ ‵ (froom MServo′.mir l36 0) ∷ ‵ (fdies MServo′.mir l36) ∷ ‵ (froom tyBool l35 0) ∷ ‵ (fdies tyBool l35) ∷ ‵ (froom tyBool l34 0) ∷ ‵ (fdies tyBool l34) ∷ ‵ (froom MAccepted′.mir l33 0) ∷ ‵ (fdies MAccepted′.mir l33) ∷ ‵ (froom MServo′.mir l32 0) ∷ ‵ (fdies MServo′.mir l32) ∷ ‵ (froom tyBool l31 0) ∷ ‵ (fdies tyBool l31) ∷ ‵ (froom MTold′.mir l30 0) ∷ ‵ (fdies MTold′.mir l30) ∷ ‵ (froom MDelaysWords′.mir l29 0) ∷ ‵ (fdies MDelaysWords′.mir l29) ∷ ‵ (froom MHalvesWords′.mir l28 0) ∷ ‵ (fdies MHalvesWords′.mir l28) ∷ ‵ (froom MEmptied′.mir l27 0) ∷ ‵ (fdies MEmptied′.mir l27) ∷ ‵ (froom tyBool l26 0) ∷ ‵ (fdies tyBool l26) ∷ ‵ (froom MHeld′.mir l25 0) ∷ ‵ (fdies MHeld′.mir l25) ∷ ‵ (froom MMasterWords′.mir l24 0) ∷ ‵ (fdies MMasterWords′.mir l24) ∷ ‵ (froom (tyInt w64) l23 0) ∷ ‵ (fdies (tyInt w64) l23) ∷ ‵ (froom tyBool l22 0) ∷ ‵ (fdies tyBool l22) ∷ ‵ (froom MSeat′.mir l21 0) ∷ ‵ (fdies MSeat′.mir l21) ∷ ‵ (froom MLooked′.mir l20 0) ∷ ‵ (fdies MLooked′.mir l20) ∷ ‵ (froom MLooked′.mir l19 0) ∷ ‵ (fdies MLooked′.mir l19) ∷ ‵ (froom MLooked′.mir l18 0) ∷ ‵ (fdies MLooked′.mir l18) ∷ ‵ (froom MLooked′.mir l17 0) ∷ ‵ (fdies MLooked′.mir l17) ∷ ‵ (froom MLooked′.mir l16 0) ∷ ‵ (fdies MLooked′.mir l16) ∷ ‵ (froom (tyInt w32) l15 0) ∷ ‵ (fdies (tyInt w32) l15) ∷ ‵ (froom tyBool l14 0) ∷ ‵ (fdies tyBool l14) ∷ ‵ (froom MStateWords′.mir l13 0) ∷ ‵ (fdies MStateWords′.mir l13) ∷ ‵ (froom MSettingsWords′.mir l12 0) ∷ ‵ (fdies MSettingsWords′.mir l12) ∷ ‵ (froom MMessage′.mir l11 0) ∷ ‵ (fdies MMessage′.mir l11) ∷ ‵ (froom tyBool l10 0) ∷ ‵ (fdies tyBool l10) ∷ ‵ (froom MReceived′.mir l9 0) ∷ ‵ (fdies MReceived′.mir l9) ∷ ‵ (froom (tyRef (named 5) mut (pointee (R-AnswerWords .written))) l8 0) ∷ ‵ (fdies (tyRef (named 5) mut (pointee (R-AnswerWords .written))) l8) ∷ ‵ (froom MStamp′.mir l7 0) ∷ ‵ (fdies MStamp′.mir l7) ∷ ‵ (froom (tyInt w64) l6 0) ∷ ‵ (fdies (tyInt w64) l6) ∷ ‵ (froom (sliceTy (tyRef (named 4) mut (tyInt w8))) l5 0) ∷ ‵ (fdies (sliceTy (tyRef (named 4) mut (tyInt w8))) l5) ∷ ‵ (froom (tyRef (named 3) mut (pointee (R-Watch .written))) l4 0) ∷ ‵ (fdies (tyRef (named 3) mut (pointee (R-Watch .written))) l4) ∷ ‵ (froom (sliceTy (tyRef (named 2) mut (pointee (R-MasterWords .written)))) l3 0) ∷ ‵ (fdies (sliceTy (tyRef (named 2) mut (pointee (R-MasterWords .written)))) l3) ∷ ‵ (froom (tyRef (named 1) mut (pointee (R-Servo .written))) l2 0) ∷ ‵ (fdies (tyRef (named 1) mut (pointee (R-Servo .written))) l2) ∷ ‵ (froom (tyRef (named 0) mut (pointee (R-UnitWords .written))) l1 0) ∷ ‵ (fdies (tyRef (named 0) mut (pointee (R-UnitWords .written))) l1) ∷ ‵ (froom tyUnit l0 0) ∷ ‵ (fdies tyUnit l0) ∷ []) (runs C Λ En i-15-34-10 qq)
       from-15-34-10 qq ee zs-8 len-9 p-4 w-3 e-6 is-7 left1 good u-24 g-25 u-28 g-29 held2 p-31 w-30 e-32 is-33 g-34 p-36 w-35 e-37 is-38 g-39 p-41 w-40 e-42 is-43 g-44 p-46 w-45 e-47 is-48 g-49 p-51 w-50 e-52 is-53 g-54 p-56 w-55 e-57 is-58 p-60 w-59 e-61 is-62 left3 g-69 p-71 w-70 e-72 is-73 p-75 w-74 e-76 is-77 held4 p-83 w-82 e-84 is-85 zs-105 zs-106 zs-107 p-101 w-100 e-103 is-104 =
-          assigns ! (of-opd ! (unit-lit !)) (from ! (stop !)) (init ! 143 refl (tt, tt)) $
-          returns-within ! Post ee (look ! 143 refl) $
-          forget ! 143 refl $
-          move ! (143 ∷ 144 ∷ 141 ∷ 142 ∷ 139 ∷ 140 ∷ 137 ∷ 138 ∷ 135 ∷ 136 ∷ 133 ∷ 134 ∷ 131 ∷ 132 ∷ 129 ∷ 130 ∷ 127 ∷ 128 ∷ 125 ∷ 126 ∷ 123 ∷ 124 ∷ 121 ∷ 122 ∷ 119 ∷ 120 ∷ 117 ∷ 118 ∷ 115 ∷ 116 ∷ 113 ∷ 114 ∷ 111 ∷ 112 ∷ 109 ∷ 110 ∷ 107 ∷ 108 ∷ 105 ∷ 106 ∷ 103 ∷ 104 ∷ 101 ∷ 102 ∷ 99 ∷ 100 ∷ 97 ∷ 98 ∷ 95 ∷ 96 ∷ 93 ∷ 94 ∷ 91 ∷ 92 ∷ 89 ∷ 90 ∷ 87 ∷ 88 ∷ 85 ∷ 86 ∷ 83 ∷ 84 ∷ 81 ∷ 82 ∷ 79 ∷ 80 ∷ 77 ∷ 78 ∷ 75 ∷ 76 ∷ 73 ∷ 74 ∷ 71 ∷ 72 ∷ 69 ∷ 70 ∷ 67 ∷ 68 ∷ 65 ∷ 66 ∷ 63 ∷ 64 ∷ 61 ∷ 62 ∷ 59 ∷ 60 ∷ 57 ∷ 58 ∷ 55 ∷ 56 ∷ 53 ∷ 54 ∷ 51 ∷ 52 ∷ 49 ∷ 50 ∷ 47 ∷ 48 ∷ 45 ∷ 46 ∷ 43 ∷ 44 ∷ 41 ∷ 42 ∷ 39 ∷ 40 ∷ 37 ∷ 38 ∷ 35 ∷ 36 ∷ 33 ∷ 34 ∷ 31 ∷ 32 ∷ 29 ∷ 30 ∷ 27 ∷ 28 ∷ 25 ∷ 26 ∷ 23 ∷ 24 ∷ 21 ∷ 22 ∷ []) $
+          assigns ! (of-opd ! (unit-lit !)) (from ! (stop !)) (init ! 151 refl (tt, tt)) $
+          returns-within ! Post ee (look ! 151 refl) $
+          forget ! 151 refl $
+          move ! (151 ∷ 152 ∷ 149 ∷ 150 ∷ 147 ∷ 148 ∷ 145 ∷ 146 ∷ 143 ∷ 144 ∷ 141 ∷ 142 ∷ 139 ∷ 140 ∷ 137 ∷ 138 ∷ 135 ∷ 136 ∷ 133 ∷ 134 ∷ 131 ∷ 132 ∷ 129 ∷ 130 ∷ 127 ∷ 128 ∷ 125 ∷ 126 ∷ 123 ∷ 124 ∷ 121 ∷ 122 ∷ 119 ∷ 120 ∷ 117 ∷ 118 ∷ 115 ∷ 116 ∷ 113 ∷ 114 ∷ 111 ∷ 112 ∷ 109 ∷ 110 ∷ 107 ∷ 108 ∷ 105 ∷ 106 ∷ 103 ∷ 104 ∷ 101 ∷ 102 ∷ 99 ∷ 100 ∷ 97 ∷ 98 ∷ 95 ∷ 96 ∷ 93 ∷ 94 ∷ 91 ∷ 92 ∷ 89 ∷ 90 ∷ 87 ∷ 88 ∷ 85 ∷ 86 ∷ 83 ∷ 84 ∷ 81 ∷ 82 ∷ 79 ∷ 80 ∷ 77 ∷ 78 ∷ 75 ∷ 76 ∷ 73 ∷ 74 ∷ 71 ∷ 72 ∷ 69 ∷ 70 ∷ 67 ∷ 68 ∷ 65 ∷ 66 ∷ 63 ∷ 64 ∷ 61 ∷ 62 ∷ 59 ∷ 60 ∷ 57 ∷ 58 ∷ 55 ∷ 56 ∷ 53 ∷ 54 ∷ 51 ∷ 52 ∷ 49 ∷ 50 ∷ 47 ∷ 48 ∷ 45 ∷ 46 ∷ 43 ∷ 44 ∷ 41 ∷ 42 ∷ 39 ∷ 40 ∷ 37 ∷ 38 ∷ 35 ∷ 36 ∷ 33 ∷ 34 ∷ 31 ∷ 32 ∷ 29 ∷ 30 ∷ 27 ∷ 28 ∷ 25 ∷ 26 ∷ 23 ∷ 24 ∷ 21 ∷ 22 ∷ []) $
           freed _ _ (
           keep ! (6 ∷ 7 ∷ 8 ∷ 3 ∷ 4 ∷ 5 ∷ 12 ∷ 13 ∷ 14 ∷ 0 ∷ 1 ∷ 2 ∷ 15 ∷ 16 ∷ 9 ∷ 10 ∷ 11 ∷ 19 ∷ 18 ∷ 17 ∷ []) $
           by ! (exits-4 zs-8 len-9 p-4 w-3 e-6 is-7 left1 good u-24 g-25 u-28 g-29 held2 p-31 w-30 e-32 is-33 g-34 p-36 w-35 e-37 is-38 g-39 p-41 w-40 e-42 is-43 g-44 p-46 w-45 e-47 is-48 g-49 p-51 w-50 e-52 is-53 g-54 p-56 w-55 e-57 is-58 p-60 w-59 e-61 is-62 left3 g-69 p-71 w-70 e-72 is-73 p-75 w-74 e-76 is-77 held4 p-83 w-82 e-84 is-85 zs-105 zs-106 zs-107 p-101 w-100 e-103 is-104))
 
-      from-15-34-5 : (qq : Kit-Post 𝓤 H) (ee : post 𝓤 H qq returnsᴼ ≡ atReturn 𝓤 H En Post returnsᴼ) (zs-8 : List ℕ) (len-9 : length zs-8 ≡ length h5) (p-4 : SReceived.Received) (w-3 : Val) (e-6 : (p-4 ≡ receivedBy (readOf h5)) × (zs-8 ≡ h5)) (is-7 : Is R-Received p-4 (w-3 ∷ [])) (left1 : Holds (not (p-4 .barred))) (good : Holds (not (not (eqb (length h3) 5)))) (u-24 : Val) (g-25 : Is R-SettingsWords (h1 .settings) (u-24 ∷ [])) (u-28 : Val) (g-29 : Is R-StateWords (h1 .state) (u-28 ∷ [])) (held2 : Holds (p-4 .announces)) (p-31 : ℕ) (w-30 : Val) (e-32 : p-31 ≡ intervalOf ((h1 .settings) .announce)) (is-33 : Is R-u32 p-31 (w-30 ∷ [])) (g-34 : Is R-MasterWords (el 0) (v-MasterWords (el 0))) (p-36 : SLooked.Looked) (w-35 : Val) (e-37 : p-36 ≡ lookedOf (p-4 .message) h6 p-31 (recordIn (el 0))) (is-38 : Is R-Looked p-36 (w-35 ∷ [])) (g-39 : Is R-MasterWords (el 1) (v-MasterWords (el 1))) (p-41 : SLooked.Looked) (w-40 : Val) (e-42 : p-41 ≡ lookedOf (p-4 .message) h6 p-31 (recordIn (el 1))) (is-43 : Is R-Looked p-41 (w-40 ∷ [])) (g-44 : Is R-MasterWords (el 2) (v-MasterWords (el 2))) (p-46 : SLooked.Looked) (w-45 : Val) (e-47 : p-46 ≡ lookedOf (p-4 .message) h6 p-31 (recordIn (el 2))) (is-48 : Is R-Looked p-46 (w-45 ∷ [])) (g-49 : Is R-MasterWords (el 3) (v-MasterWords (el 3))) (p-51 : SLooked.Looked) (w-50 : Val) (e-52 : p-51 ≡ lookedOf (p-4 .message) h6 p-31 (recordIn (el 3))) (is-53 : Is R-Looked p-51 (w-50 ∷ [])) (g-54 : Is R-MasterWords (el 4) (v-MasterWords (el 4))) (p-56 : SLooked.Looked) (w-55 : Val) (e-57 : p-56 ≡ lookedOf (p-4 .message) h6 p-31 (recordIn (el 4))) (is-58 : Is R-Looked p-56 (w-55 ∷ [])) (p-60 : SSeat.Seat) (w-59 : Val) (e-61 : p-60 ≡ seatBy (h1 .settings) (h1 .state) (p-4 .message) h6 (p-36 .standing) (p-41 .standing) (p-46 .standing) (p-51 .standing) (p-56 .standing)) (is-62 : Is R-Seat p-60 (w-59 ∷ [])) (left3 : Holds (not (p-60 .barred))) (g-69 : Is R-MasterWords (el (p-60 .at)) (v-MasterWords (el (p-60 .at)))) (p-71 : SMasterWords.MasterWords) (w-70 : Val) (e-72 : p-71 ≡ placedOf (el (p-60 .at)) (p-4 .message) (p-60 .known) h6) (is-73 : Is R-MasterWords p-71 (w-70 ∷ [])) (p-75 : SHeld.Held) (w-74 : Val) (e-76 : p-75 ≡ heldOf (h1 .state) h6 (bestWith (p-60 .at) (candidateOf h6 p-31 (recordIn p-71)) (p-36 .candidate) (p-41 .candidate) (p-46 .candidate) (p-51 .candidate) (p-56 .candidate))) (is-77 : Is R-Held p-75 (w-74 ∷ [])) (held4 : Holds (p-75 .wipes)) (p-83 : SEmptied.Emptied) (w-82 : Val) (e-84 : p-83 ≡ emptiedOf (h1 .settings)) (is-85 : Is R-Emptied p-83 (w-82 ∷ [])) → Sq W (‵ (fobs γ2 (R-Servo .coded .code (p-83 .servo))) ∷ ‵ (fbor κ2 (Body (mem R-Servo) b2 o2 γ2)) ∷ ‵ (flft κ2 q2) ∷ ‵ (fobs γ1 (R-UnitWords .coded .code (with-UnitWords-3 (with-UnitWords-2 (with-UnitWords-1 h1 (p-75 .state)) (p-83 .halves)) (p-83 .delays)))) ∷ ‵ (fbor κ1 (Body (mem R-UnitWords) b1 o1 γ1)) ∷ ‵ (flft κ1 q1) ∷ ‵ (fobs γ8 (R-AnswerWords .coded .code (p-75 .answer))) ∷ ‵ (fbor κ8 (Body (mem R-AnswerWords) b8 o8 γ8)) ∷ ‵ (flft κ8 q8) ∷ ‵ (fobs γ3 (codedHoleys R-MasterWords .code (heres R-MasterWords (set h3 (p-60 .at) p-71)))) ∷ ‵ (fbor κ3 (Held R-MasterWords (length (set h3 (p-60 .at) p-71)) b3 o3 γ3)) ∷ ‵ (flft κ3 q3) ∷ ‵ (MutSlice (named 4) κ5 R-u8 .own (x5 zs-8) ((sliceVal (b5, o5) (length h5)) ∷ [])) ∷ ‵ (flft κ5 q5) ∷ ‵ (flft κ4 q4) ∷ ‵ (ftrue) ∷ ‵ (R-Stamp .own h7 (u7 ∷ [])) ∷ ‵ (R-u64 .own h6 (u6 ∷ [])) ∷ ‵ (fobs γ4 (R-Watch .coded .code h4)) ∷ ‵ (fbor κ4 (Body (mem R-Watch) b4 o4 γ4)) ∷ ‵ (at-slice R-MasterWords (x3 h3) ((sliceVal (b3, o3) (length h3)) ∷ [])) ∷ ‵ (froom (tyRef erased mut (pointee (R-u8x128 .written))) l61 0) ∷ ‵ (fdies (tyRef erased mut (pointee (R-u8x128 .written))) l61) ∷ ‵ (froom (tyRef erased mut (pointee (R-i32x128 .written))) l60 0) ∷ ‵ (fdies (tyRef erased mut (pointee (R-i32x128 .written))) l60) ∷ ‵ (froom (tyRef erased mut (pointee (R-i64x128 .written))) l59 0) ∷ ‵ (fdies (tyRef erased mut (pointee (R-i64x128 .written))) l59) ∷ ‵ (froom MHead′.mir l58 0) ∷ ‵ (fdies MHead′.mir l58) ∷ ‵ (froom MAnswerWords′.mir l57 0) ∷ ‵ (fdies MAnswerWords′.mir l57) ∷ ‵ (froom MAnswerWords′.mir l56 0) ∷ ‵ (fdies MAnswerWords′.mir l56) ∷ ‵ (froom (tyRef erased mut (pointee (R-u8x128 .written))) l55 0) ∷ ‵ (fdies (tyRef erased mut (pointee (R-u8x128 .written))) l55) ∷ ‵ (froom (tyRef erased mut (pointee (R-i32x128 .written))) l54 0) ∷ ‵ (fdies (tyRef erased mut (pointee (R-i32x128 .written))) l54) ∷ ‵ (froom (tyRef erased mut (pointee (R-i64x128 .written))) l53 0) ∷ ‵ (fdies (tyRef erased mut (pointee (R-i64x128 .written))) l53) ∷ ‵ (froom MHead′.mir l52 0) ∷ ‵ (fdies MHead′.mir l52) ∷ ‵ (froom tyPtr l51 0) ∷ ‵ (fdies tyPtr l51) ∷ ‵ (froom tyPtr l50 0) ∷ ‵ (fdies tyPtr l50) ∷ ‵ (froom (tyInt w64) l49 0) ∷ ‵ (fdies (tyInt w64) l49) ∷ ‵ (froom MAnswerWords′.mir l48 0) ∷ ‵ (fdies MAnswerWords′.mir l48) ∷ ‵ (froom tyBool l47 0) ∷ ‵ (fdies tyBool l47) ∷ ‵ (froom tyPtr l46 0) ∷ ‵ (fdies tyPtr l46) ∷ ‵ (froom tyPtr l45 0) ∷ ‵ (fdies tyPtr l45) ∷ ‵ (froom tyPtr l44 0) ∷ ‵ (fdies tyPtr l44) ∷ ‵ (froom tyPtr l43 0) ∷ ‵ (fdies tyPtr l43) ∷ ‵ (froom MMasterWords′.mir l42 0) ∷ ‵ (fdies MMasterWords′.mir l42) ∷ ‵ (froom tyPtr l41 0) ∷ ‵ (fdies tyPtr l41) ∷ ‵ (froom MAnswerWords′.mir l40 0) ∷ ‵ (fdies MAnswerWords′.mir l40) ∷ ‵ (froom (tyInt w64) l39 0) ∷ ‵ (fdies (tyInt w64) l39) ∷ ‵ (froom MAnswerWords′.mir l38 0) ∷ ‵ (fdies MAnswerWords′.mir l38) ∷ ‵ (froom tyBool l37 0) ∷ ‵ (fdies tyBool l37) ∷ ‵ (froom (sliceTy (tyRef erased mut (tyInt w8))) l36 0) ∷ ‵ (fdies (sliceTy (tyRef erased mut (tyInt w8))) l36) ∷ ‵ (froom (tyRef erased mut (tyInt w8)) l35 0) ∷ ‵ (fdies (tyRef erased mut (tyInt w8)) l35) ∷ ‵ (froom tyBool l34 0) ∷ ‵ (fdies tyBool l34) ∷ ‵ (froom MServo′.mir l33 0) ∷ ‵ (fdies MServo′.mir l33) ∷ ‵ (froom MServo′.mir l32 0) ∷ ‵ (fdies MServo′.mir l32) ∷ ‵ (froom tyBool l31 0) ∷ ‵ (fdies tyBool l31) ∷ ‵ (froom MTold′.mir l30 0) ∷ ‵ (fdies MTold′.mir l30) ∷ ‵ (froom MDelaysWords′.mir l29 0) ∷ ‵ (fdies MDelaysWords′.mir l29) ∷ ‵ (froom MHalvesWords′.mir l28 0) ∷ ‵ (fdies MHalvesWords′.mir l28) ∷ ‵ (froom MEmptied′.mir l27 0) ∷ ‵ (fdies MEmptied′.mir l27) ∷ ‵ (froom tyBool l26 0) ∷ ‵ (fdies tyBool l26) ∷ ‵ (froom MHeld′.mir l25 0) ∷ ‵ (fdies MHeld′.mir l25) ∷ ‵ (froom MMasterWords′.mir l24 0) ∷ ‵ (fdies MMasterWords′.mir l24) ∷ ‵ (froom (tyInt w64) l23 0) ∷ ‵ (fdies (tyInt w64) l23) ∷ ‵ (froom tyBool l22 0) ∷ ‵ (fdies tyBool l22) ∷ ‵ (froom MSeat′.mir l21 0) ∷ ‵ (fdies MSeat′.mir l21) ∷ ‵ (froom MLooked′.mir l20 0) ∷ ‵ (fdies MLooked′.mir l20) ∷ ‵ (froom MLooked′.mir l19 0) ∷ ‵ (fdies MLooked′.mir l19) ∷ ‵ (froom MLooked′.mir l18 0) ∷ ‵ (fdies MLooked′.mir l18) ∷ ‵ (froom MLooked′.mir l17 0) ∷ ‵ (fdies MLooked′.mir l17) ∷ ‵ (froom MLooked′.mir l16 0) ∷ ‵ (fdies MLooked′.mir l16) ∷ ‵ (froom (tyInt w32) l15 0) ∷ ‵ (fdies (tyInt w32) l15) ∷ ‵ (froom tyBool l14 0) ∷ ‵ (fdies tyBool l14) ∷ ‵ (froom MStateWords′.mir l13 0) ∷ ‵ (fdies MStateWords′.mir l13) ∷ ‵ (froom MSettingsWords′.mir l12 0) ∷ ‵ (fdies MSettingsWords′.mir l12) ∷ ‵ (froom MMessage′.mir l11 0) ∷ ‵ (fdies MMessage′.mir l11) ∷ ‵ (froom tyBool l10 0) ∷ ‵ (fdies tyBool l10) ∷ ‵ (froom MReceived′.mir l9 0) ∷ ‵ (fdies MReceived′.mir l9) ∷ ‵ (froom (tyRef (named 5) mut (pointee (R-AnswerWords .written))) l8 0) ∷ ‵ (fdies (tyRef (named 5) mut (pointee (R-AnswerWords .written))) l8) ∷ ‵ (froom MStamp′.mir l7 0) ∷ ‵ (fdies MStamp′.mir l7) ∷ ‵ (froom (tyInt w64) l6 0) ∷ ‵ (fdies (tyInt w64) l6) ∷ ‵ (froom (sliceTy (tyRef (named 4) mut (tyInt w8))) l5 0) ∷ ‵ (fdies (sliceTy (tyRef (named 4) mut (tyInt w8))) l5) ∷ ‵ (fat fullShare (tyRef (named 3) mut (pointee (R-Watch .written))) l4 0 (vptr b4 o4)) ∷ ‵ (fdies (tyRef (named 3) mut (pointee (R-Watch .written))) l4) ∷ ‵ (froom (sliceTy (tyRef (named 2) mut (pointee (R-MasterWords .written)))) l3 0) ∷ ‵ (fdies (sliceTy (tyRef (named 2) mut (pointee (R-MasterWords .written)))) l3) ∷ ‵ (froom (tyRef (named 1) mut (pointee (R-Servo .written))) l2 0) ∷ ‵ (fdies (tyRef (named 1) mut (pointee (R-Servo .written))) l2) ∷ ‵ (froom (tyRef (named 0) mut (pointee (R-UnitWords .written))) l1 0) ∷ ‵ (fdies (tyRef (named 0) mut (pointee (R-UnitWords .written))) l1) ∷ ‵ (froom tyUnit l0 0) ∷ ‵ (fdies tyUnit l0) ∷ []) (runs C Λ En i-15-34-5 qq)
+      from-15-34-5 : (qq : Kit-Post 𝓤 H) (ee : post 𝓤 H qq returnsᴼ ≡ atReturn 𝓤 H En Post returnsᴼ) (zs-8 : List ℕ) (len-9 : length zs-8 ≡ length h5) (p-4 : SReceived.Received) (w-3 : Val) (e-6 : (p-4 ≡ receivedBy (readOf h5)) × (zs-8 ≡ h5)) (is-7 : Is R-Received p-4 (w-3 ∷ [])) (left1 : Holds (not (p-4 .barred))) (good : Holds (not (not (eqb (length h3) 5)))) (u-24 : Val) (g-25 : Is R-SettingsWords (h1 .settings) (u-24 ∷ [])) (u-28 : Val) (g-29 : Is R-StateWords (h1 .state) (u-28 ∷ [])) (held2 : Holds (p-4 .announces)) (p-31 : ℕ) (w-30 : Val) (e-32 : p-31 ≡ intervalOf ((h1 .settings) .announce)) (is-33 : Is R-u32 p-31 (w-30 ∷ [])) (g-34 : Is R-MasterWords (el 0) (v-MasterWords (el 0))) (p-36 : SLooked.Looked) (w-35 : Val) (e-37 : p-36 ≡ lookedOf (p-4 .message) h6 p-31 (recordIn (el 0))) (is-38 : Is R-Looked p-36 (w-35 ∷ [])) (g-39 : Is R-MasterWords (el 1) (v-MasterWords (el 1))) (p-41 : SLooked.Looked) (w-40 : Val) (e-42 : p-41 ≡ lookedOf (p-4 .message) h6 p-31 (recordIn (el 1))) (is-43 : Is R-Looked p-41 (w-40 ∷ [])) (g-44 : Is R-MasterWords (el 2) (v-MasterWords (el 2))) (p-46 : SLooked.Looked) (w-45 : Val) (e-47 : p-46 ≡ lookedOf (p-4 .message) h6 p-31 (recordIn (el 2))) (is-48 : Is R-Looked p-46 (w-45 ∷ [])) (g-49 : Is R-MasterWords (el 3) (v-MasterWords (el 3))) (p-51 : SLooked.Looked) (w-50 : Val) (e-52 : p-51 ≡ lookedOf (p-4 .message) h6 p-31 (recordIn (el 3))) (is-53 : Is R-Looked p-51 (w-50 ∷ [])) (g-54 : Is R-MasterWords (el 4) (v-MasterWords (el 4))) (p-56 : SLooked.Looked) (w-55 : Val) (e-57 : p-56 ≡ lookedOf (p-4 .message) h6 p-31 (recordIn (el 4))) (is-58 : Is R-Looked p-56 (w-55 ∷ [])) (p-60 : SSeat.Seat) (w-59 : Val) (e-61 : p-60 ≡ seatBy (h1 .settings) (h1 .state) (p-4 .message) h6 (p-36 .standing) (p-41 .standing) (p-46 .standing) (p-51 .standing) (p-56 .standing)) (is-62 : Is R-Seat p-60 (w-59 ∷ [])) (left3 : Holds (not (p-60 .barred))) (g-69 : Is R-MasterWords (el (p-60 .at)) (v-MasterWords (el (p-60 .at)))) (p-71 : SMasterWords.MasterWords) (w-70 : Val) (e-72 : p-71 ≡ placedOf (el (p-60 .at)) (p-4 .message) (p-60 .known) h6) (is-73 : Is R-MasterWords p-71 (w-70 ∷ [])) (p-75 : SHeld.Held) (w-74 : Val) (e-76 : p-75 ≡ heldOf (h1 .state) h6 (bestWith (p-60 .at) (candidateOf h6 p-31 (recordIn p-71)) (p-36 .candidate) (p-41 .candidate) (p-46 .candidate) (p-51 .candidate) (p-56 .candidate))) (is-77 : Is R-Held p-75 (w-74 ∷ [])) (held4 : Holds (p-75 .wipes)) (p-83 : SEmptied.Emptied) (w-82 : Val) (e-84 : p-83 ≡ emptiedOf (h1 .settings)) (is-85 : Is R-Emptied p-83 (w-82 ∷ [])) → Sq W (‵ (fobs γ2 (R-Servo .coded .code (p-83 .servo))) ∷ ‵ (fbor κ2 (Body (mem R-Servo) b2 o2 γ2)) ∷ ‵ (flft κ2 q2) ∷ ‵ (fobs γ1 (R-UnitWords .coded .code (with-UnitWords-3 (with-UnitWords-2 (with-UnitWords-1 h1 (p-75 .state)) (p-83 .halves)) (p-83 .delays)))) ∷ ‵ (fbor κ1 (Body (mem R-UnitWords) b1 o1 γ1)) ∷ ‵ (flft κ1 q1) ∷ ‵ (fobs γ8 (R-AnswerWords .coded .code (p-75 .answer))) ∷ ‵ (fbor κ8 (Body (mem R-AnswerWords) b8 o8 γ8)) ∷ ‵ (flft κ8 q8) ∷ ‵ (fobs γ3 (codedHoleys R-MasterWords .code (heres R-MasterWords (set h3 (p-60 .at) p-71)))) ∷ ‵ (fbor κ3 (Held R-MasterWords (length (set h3 (p-60 .at) p-71)) b3 o3 γ3)) ∷ ‵ (flft κ3 q3) ∷ ‵ (MutSlice (named 4) κ5 R-u8 .own (x5 zs-8) ((sliceVal (b5, o5) (length h5)) ∷ [])) ∷ ‵ (flft κ5 q5) ∷ ‵ (flft κ4 q4) ∷ ‵ (ftrue) ∷ ‵ (R-Stamp .own h7 (u7 ∷ [])) ∷ ‵ (R-u64 .own h6 (u6 ∷ [])) ∷ ‵ (fobs γ4 (R-Watch .coded .code h4)) ∷ ‵ (fbor κ4 (Body (mem R-Watch) b4 o4 γ4)) ∷ ‵ (at-slice R-MasterWords (x3 h3) ((sliceVal (b3, o3) (length h3)) ∷ [])) ∷ ‵ (froom (tyRef erased mut (pointee (R-u8x128 .written))) l65 0) ∷ ‵ (fdies (tyRef erased mut (pointee (R-u8x128 .written))) l65) ∷ ‵ (froom (tyRef erased mut (pointee (R-i32x128 .written))) l64 0) ∷ ‵ (fdies (tyRef erased mut (pointee (R-i32x128 .written))) l64) ∷ ‵ (froom (tyRef erased mut (pointee (R-i64x128 .written))) l63 0) ∷ ‵ (fdies (tyRef erased mut (pointee (R-i64x128 .written))) l63) ∷ ‵ (froom MHead′.mir l62 0) ∷ ‵ (fdies MHead′.mir l62) ∷ ‵ (froom MAnswerWords′.mir l61 0) ∷ ‵ (fdies MAnswerWords′.mir l61) ∷ ‵ (froom MAnswerWords′.mir l60 0) ∷ ‵ (fdies MAnswerWords′.mir l60) ∷ ‵ (froom (tyRef erased mut (pointee (R-u8x128 .written))) l59 0) ∷ ‵ (fdies (tyRef erased mut (pointee (R-u8x128 .written))) l59) ∷ ‵ (froom (tyRef erased mut (pointee (R-i32x128 .written))) l58 0) ∷ ‵ (fdies (tyRef erased mut (pointee (R-i32x128 .written))) l58) ∷ ‵ (froom (tyRef erased mut (pointee (R-i64x128 .written))) l57 0) ∷ ‵ (fdies (tyRef erased mut (pointee (R-i64x128 .written))) l57) ∷ ‵ (froom MHead′.mir l56 0) ∷ ‵ (fdies MHead′.mir l56) ∷ ‵ (froom tyPtr l55 0) ∷ ‵ (fdies tyPtr l55) ∷ ‵ (froom tyPtr l54 0) ∷ ‵ (fdies tyPtr l54) ∷ ‵ (froom (tyInt w64) l53 0) ∷ ‵ (fdies (tyInt w64) l53) ∷ ‵ (froom MAnswerWords′.mir l52 0) ∷ ‵ (fdies MAnswerWords′.mir l52) ∷ ‵ (froom tyBool l51 0) ∷ ‵ (fdies tyBool l51) ∷ ‵ (froom tyPtr l50 0) ∷ ‵ (fdies tyPtr l50) ∷ ‵ (froom tyPtr l49 0) ∷ ‵ (fdies tyPtr l49) ∷ ‵ (froom tyPtr l48 0) ∷ ‵ (fdies tyPtr l48) ∷ ‵ (froom tyPtr l47 0) ∷ ‵ (fdies tyPtr l47) ∷ ‵ (froom MMasterWords′.mir l46 0) ∷ ‵ (fdies MMasterWords′.mir l46) ∷ ‵ (froom tyPtr l45 0) ∷ ‵ (fdies tyPtr l45) ∷ ‵ (froom MAnswerWords′.mir l44 0) ∷ ‵ (fdies MAnswerWords′.mir l44) ∷ ‵ (froom (tyInt w64) l43 0) ∷ ‵ (fdies (tyInt w64) l43) ∷ ‵ (froom MAnswerWords′.mir l42 0) ∷ ‵ (fdies MAnswerWords′.mir l42) ∷ ‵ (froom tyBool l41 0) ∷ ‵ (fdies tyBool l41) ∷ ‵ (froom (sliceTy (tyRef erased mut (tyInt w8))) l40 0) ∷ ‵ (fdies (sliceTy (tyRef erased mut (tyInt w8))) l40) ∷ ‵ (froom (tyRef erased mut (tyInt w8)) l39 0) ∷ ‵ (fdies (tyRef erased mut (tyInt w8)) l39) ∷ ‵ (froom (tyInt w16) l38 0) ∷ ‵ (fdies (tyInt w16) l38) ∷ ‵ (froom (tyInt w8) l37 0) ∷ ‵ (fdies (tyInt w8) l37) ∷ ‵ (froom MServo′.mir l36 0) ∷ ‵ (fdies MServo′.mir l36) ∷ ‵ (froom tyBool l35 0) ∷ ‵ (fdies tyBool l35) ∷ ‵ (froom tyBool l34 0) ∷ ‵ (fdies tyBool l34) ∷ ‵ (froom MAccepted′.mir l33 0) ∷ ‵ (fdies MAccepted′.mir l33) ∷ ‵ (froom MServo′.mir l32 0) ∷ ‵ (fdies MServo′.mir l32) ∷ ‵ (froom tyBool l31 0) ∷ ‵ (fdies tyBool l31) ∷ ‵ (froom MTold′.mir l30 0) ∷ ‵ (fdies MTold′.mir l30) ∷ ‵ (froom MDelaysWords′.mir l29 0) ∷ ‵ (fdies MDelaysWords′.mir l29) ∷ ‵ (froom MHalvesWords′.mir l28 0) ∷ ‵ (fdies MHalvesWords′.mir l28) ∷ ‵ (froom MEmptied′.mir l27 0) ∷ ‵ (fdies MEmptied′.mir l27) ∷ ‵ (froom tyBool l26 0) ∷ ‵ (fdies tyBool l26) ∷ ‵ (froom MHeld′.mir l25 0) ∷ ‵ (fdies MHeld′.mir l25) ∷ ‵ (froom MMasterWords′.mir l24 0) ∷ ‵ (fdies MMasterWords′.mir l24) ∷ ‵ (froom (tyInt w64) l23 0) ∷ ‵ (fdies (tyInt w64) l23) ∷ ‵ (froom tyBool l22 0) ∷ ‵ (fdies tyBool l22) ∷ ‵ (froom MSeat′.mir l21 0) ∷ ‵ (fdies MSeat′.mir l21) ∷ ‵ (froom MLooked′.mir l20 0) ∷ ‵ (fdies MLooked′.mir l20) ∷ ‵ (froom MLooked′.mir l19 0) ∷ ‵ (fdies MLooked′.mir l19) ∷ ‵ (froom MLooked′.mir l18 0) ∷ ‵ (fdies MLooked′.mir l18) ∷ ‵ (froom MLooked′.mir l17 0) ∷ ‵ (fdies MLooked′.mir l17) ∷ ‵ (froom MLooked′.mir l16 0) ∷ ‵ (fdies MLooked′.mir l16) ∷ ‵ (froom (tyInt w32) l15 0) ∷ ‵ (fdies (tyInt w32) l15) ∷ ‵ (froom tyBool l14 0) ∷ ‵ (fdies tyBool l14) ∷ ‵ (froom MStateWords′.mir l13 0) ∷ ‵ (fdies MStateWords′.mir l13) ∷ ‵ (froom MSettingsWords′.mir l12 0) ∷ ‵ (fdies MSettingsWords′.mir l12) ∷ ‵ (froom MMessage′.mir l11 0) ∷ ‵ (fdies MMessage′.mir l11) ∷ ‵ (froom tyBool l10 0) ∷ ‵ (fdies tyBool l10) ∷ ‵ (froom MReceived′.mir l9 0) ∷ ‵ (fdies MReceived′.mir l9) ∷ ‵ (froom (tyRef (named 5) mut (pointee (R-AnswerWords .written))) l8 0) ∷ ‵ (fdies (tyRef (named 5) mut (pointee (R-AnswerWords .written))) l8) ∷ ‵ (froom MStamp′.mir l7 0) ∷ ‵ (fdies MStamp′.mir l7) ∷ ‵ (froom (tyInt w64) l6 0) ∷ ‵ (fdies (tyInt w64) l6) ∷ ‵ (froom (sliceTy (tyRef (named 4) mut (tyInt w8))) l5 0) ∷ ‵ (fdies (sliceTy (tyRef (named 4) mut (tyInt w8))) l5) ∷ ‵ (fat fullShare (tyRef (named 3) mut (pointee (R-Watch .written))) l4 0 (vptr b4 o4)) ∷ ‵ (fdies (tyRef (named 3) mut (pointee (R-Watch .written))) l4) ∷ ‵ (froom (sliceTy (tyRef (named 2) mut (pointee (R-MasterWords .written)))) l3 0) ∷ ‵ (fdies (sliceTy (tyRef (named 2) mut (pointee (R-MasterWords .written)))) l3) ∷ ‵ (froom (tyRef (named 1) mut (pointee (R-Servo .written))) l2 0) ∷ ‵ (fdies (tyRef (named 1) mut (pointee (R-Servo .written))) l2) ∷ ‵ (froom (tyRef (named 0) mut (pointee (R-UnitWords .written))) l1 0) ∷ ‵ (fdies (tyRef (named 0) mut (pointee (R-UnitWords .written))) l1) ∷ ‵ (froom tyUnit l0 0) ∷ ‵ (fdies tyUnit l0) ∷ []) (runs C Λ En i-15-34-5 qq)
       from-15-34-5 qq ee zs-8 len-9 p-4 w-3 e-6 is-7 left1 good u-24 g-25 u-28 g-29 held2 p-31 w-30 e-32 is-33 g-34 p-36 w-35 e-37 is-38 g-39 p-41 w-40 e-42 is-43 g-44 p-46 w-45 e-47 is-48 g-49 p-51 w-50 e-52 is-53 g-54 p-56 w-55 e-57 is-58 p-60 w-59 e-61 is-62 left3 g-69 p-71 w-70 e-72 is-73 p-75 w-74 e-76 is-77 held4 p-83 w-82 e-84 is-85 =
-          assigns ! (addr ! (from ! (hop ! (look ! 135 refl) (fld ! {τ = (tyArray (tyInt w64) 128)} {d = 16} refl (stop !))))) (from ! (stop !)) (init ! 37 refl (tt, tt)) $
-          assigns ! (addr ! (from ! (hop ! (look ! 135 refl) (fld ! {τ = (tyArray (tyInt w32) 128)} {d = 1040} refl (stop !))))) (from ! (stop !)) (init ! 35 refl (tt, tt)) $
-          assigns ! (addr ! (from ! (hop ! (look ! 135 refl) (fld ! {τ = (tyArray (tyInt w8) 128)} {d = 1552} refl (stop !))))) (from ! (stop !)) (init ! 33 refl (tt, tt)) $
+          assigns ! (addr ! (from ! (hop ! (look ! 143 refl) (fld ! {τ = (tyArray (tyInt w64) 128)} {d = 16} refl (stop !))))) (from ! (stop !)) (init ! 37 refl (tt, tt)) $
+          assigns ! (addr ! (from ! (hop ! (look ! 143 refl) (fld ! {τ = (tyArray (tyInt w32) 128)} {d = 1040} refl (stop !))))) (from ! (stop !)) (init ! 35 refl (tt, tt)) $
+          assigns ! (addr ! (from ! (hop ! (look ! 143 refl) (fld ! {τ = (tyArray (tyInt w8) 128)} {d = 1552} refl (stop !))))) (from ! (stop !)) (init ! 33 refl (tt, tt)) $
           move ! (18 ∷ 19 ∷ 14 ∷ []) $
           opens ! tt R-Watch {h = h4} b4 o4 (λ vs-92.
           move ! (1 ∷ []) $
@@ -2126,17 +2126,17 @@ module _ {M : Type 1} (𝓤 : URA M) (H : Heap 𝓤) (A : Atoms 𝓤) (W : Given
           move ! (1 ∷ []) $
           use1 W (‵ (fat fullShare MWatch′.mir b4 o4 (only vs-114))) (W .laws .raw-at fullShare MWatch′.mir b4 o4 (only vs-114)) $
           rewrite ! 0 (λ (u : Val). ‵ (fat fullShare MWatch′.mir b4 o4 u)) ((parts-Watch (all-Watch (h4 .head) (ws-102 .0) (ws-102 .1 .0) (ws-102 .1 .1 .0)) (only vs-114) (one-Watch (all-Watch (h4 .head) (ws-102 .0) (ws-102 .1 .0) (ws-102 .1 .1 .0)) vs-114 g-115)) .whole-is) refl $
-          assigns ! (of-opd ! (load ! (from ! (stop !)) (look ! 41 refl))) (from ! (hop ! (look ! 137 refl) (fld ! {τ = MHead′.mir} {d = off-Watch-0} field-Watch-0 (stop !)))) (store-in ! 0 (sub ! {ν = name-of MWatch′.mir} {τs = tys-of MWatch′.mir} 0 {τ = MHead′.mir} {d = off-Watch-0} field-Watch-0 (whole !)) (lawful-Head 𝓤 H A W .typed p-101 _ is-104 .0)) $
+          assigns ! (of-opd ! (load ! (from ! (stop !)) (look ! 41 refl))) (from ! (hop ! (look ! 145 refl) (fld ! {τ = MHead′.mir} {d = off-Watch-0} field-Watch-0 (stop !)))) (store-in ! 0 (sub ! {ν = name-of MWatch′.mir} {τs = tys-of MWatch′.mir} 0 {τ = MHead′.mir} {d = off-Watch-0} field-Watch-0 (whole !)) (lawful-Head 𝓤 H A W .typed p-101 _ is-104 .0)) $
           use1 W (‵ (cellAt fullShare (R-Watch .mir) ((vstruct (ofList (w-100 ∷ ((parts-Watch (all-Watch (h4 .head) (ws-102 .0) (ws-102 .1 .0) (ws-102 .1 .1 .0)) (only vs-114) (one-Watch (all-Watch (h4 .head) (ws-102 .0) (ws-102 .1 .0) (ws-102 .1 .1 .0)) vs-114 g-115)) .pu1) ∷ ((parts-Watch (all-Watch (h4 .head) (ws-102 .0) (ws-102 .1 .0) (ws-102 .1 .1 .0)) (only vs-114) (one-Watch (all-Watch (h4 .head) (ws-102 .0) (ws-102 .1 .0) (ws-102 .1 .1 .0)) vs-114 g-115)) .pu2) ∷ ((parts-Watch (all-Watch (h4 .head) (ws-102 .0) (ws-102 .1 .0) (ws-102 .1 .1 .0)) (only vs-114) (one-Watch (all-Watch (h4 .head) (ws-102 .0) (ws-102 .1 .0) (ws-102 .1 .1 .0)) vs-114 g-115)) .pu3) ∷ []))) ∷ []) b4 o4)) (W .laws .at-raw fullShare MWatch′.mir b4 o4 (vstruct (ofList (w-100 ∷ ((parts-Watch (all-Watch (h4 .head) (ws-102 .0) (ws-102 .1 .0) (ws-102 .1 .1 .0)) (only vs-114) (one-Watch (all-Watch (h4 .head) (ws-102 .0) (ws-102 .1 .0) (ws-102 .1 .1 .0)) vs-114 g-115)) .pu1) ∷ ((parts-Watch (all-Watch (h4 .head) (ws-102 .0) (ws-102 .1 .0) (ws-102 .1 .1 .0)) (only vs-114) (one-Watch (all-Watch (h4 .head) (ws-102 .0) (ws-102 .1 .0) (ws-102 .1 .1 .0)) vs-114 g-115)) .pu2) ∷ ((parts-Watch (all-Watch (h4 .head) (ws-102 .0) (ws-102 .1 .0) (ws-102 .1 .1 .0)) (only vs-114) (one-Watch (all-Watch (h4 .head) (ws-102 .0) (ws-102 .1 .0) (ws-102 .1 .1 .0)) vs-114 g-115)) .pu3) ∷ [])))) $
           move ! (1 ∷ []) $
           drop ! $
           owned ! R-Watch (Is R-Watch) (makes-Watch 𝓤 H A W) (with-Watch-0 (all-Watch (h4 .head) (ws-102 .0) (ws-102 .1 .0) (ws-102 .1 .1 .0)) p-101) _ (shape-Watch (with-Watch-0 (all-Watch (h4 .head) (ws-102 .0) (ws-102 .1 .0) (ws-102 .1 .1 .0)) p-101) w-100 ((parts-Watch (all-Watch (h4 .head) (ws-102 .0) (ws-102 .1 .0) (ws-102 .1 .1 .0)) (only vs-114) (one-Watch (all-Watch (h4 .head) (ws-102 .0) (ws-102 .1 .0) (ws-102 .1 .1 .0)) vs-114 g-115)) .pu1) ((parts-Watch (all-Watch (h4 .head) (ws-102 .0) (ws-102 .1 .0) (ws-102 .1 .1 .0)) (only vs-114) (one-Watch (all-Watch (h4 .head) (ws-102 .0) (ws-102 .1 .0) (ws-102 .1 .1 .0)) vs-114 g-115)) .pu2) ((parts-Watch (all-Watch (h4 .head) (ws-102 .0) (ws-102 .1 .0) (ws-102 .1 .1 .0)) (only vs-114) (one-Watch (all-Watch (h4 .head) (ws-102 .0) (ws-102 .1 .0) (ws-102 .1 .1 .0)) vs-114 g-115)) .pu3) is-104 ((parts-Watch (all-Watch (h4 .head) (ws-102 .0) (ws-102 .1 .0) (ws-102 .1 .1 .0)) (only vs-114) (one-Watch (all-Watch (h4 .head) (ws-102 .0) (ws-102 .1 .0) (ws-102 .1 .1 .0)) vs-114 g-115)) .pg1) ((parts-Watch (all-Watch (h4 .head) (ws-102 .0) (ws-102 .1 .0) (ws-102 .1 .1 .0)) (only vs-114) (one-Watch (all-Watch (h4 .head) (ws-102 .0) (ws-102 .1 .0) (ws-102 .1 .1 .0)) vs-114 g-115)) .pg2) ((parts-Watch (all-Watch (h4 .head) (ws-102 .0) (ws-102 .1 .0) (ws-102 .1 .1 .0)) (only vs-114) (one-Watch (all-Watch (h4 .head) (ws-102 .0) (ws-102 .1 .0) (ws-102 .1 .1 .0)) vs-114 g-115)) .pg3)) $
           move ! (1 ∷ 0 ∷ 2 ∷ 3 ∷ 4 ∷ []) $
           closes ! tt R-Watch (with-Watch-0 (all-Watch (h4 .head) (ws-102 .0) (ws-102 .1 .0) (ws-102 .1 .1 .0)) p-101) ((vstruct (ofList (w-100 ∷ ((parts-Watch (all-Watch (h4 .head) (ws-102 .0) (ws-102 .1 .0) (ws-102 .1 .1 .0)) (only vs-114) (one-Watch (all-Watch (h4 .head) (ws-102 .0) (ws-102 .1 .0) (ws-102 .1 .1 .0)) vs-114 g-115)) .pu1) ∷ ((parts-Watch (all-Watch (h4 .head) (ws-102 .0) (ws-102 .1 .0) (ws-102 .1 .1 .0)) (only vs-114) (one-Watch (all-Watch (h4 .head) (ws-102 .0) (ws-102 .1 .0) (ws-102 .1 .1 .0)) vs-114 g-115)) .pu2) ∷ ((parts-Watch (all-Watch (h4 .head) (ws-102 .0) (ws-102 .1 .0) (ws-102 .1 .1 .0)) (only vs-114) (one-Watch (all-Watch (h4 .head) (ws-102 .0) (ws-102 .1 .0) (ws-102 .1 .1 .0)) vs-114 g-115)) .pu3) ∷ []))) ∷ []) b4 o4 $
-          forget ! 135 refl $ forget ! 37 refl $ forget ! 35 refl $ forget ! 33 refl $ forget ! 39 refl $
+          forget ! 143 refl $ forget ! 37 refl $ forget ! 35 refl $ forget ! 33 refl $ forget ! 39 refl $
           from-15-34-10 qq ee zs-8 len-9 p-4 w-3 e-6 is-7 left1 good u-24 g-25 u-28 g-29 held2 p-31 w-30 e-32 is-33 g-34 p-36 w-35 e-37 is-38 g-39 p-41 w-40 e-42 is-43 g-44 p-46 w-45 e-47 is-48 g-49 p-51 w-50 e-52 is-53 g-54 p-56 w-55 e-57 is-58 p-60 w-59 e-61 is-62 left3 g-69 p-71 w-70 e-72 is-73 p-75 w-74 e-76 is-77 held4 p-83 w-82 e-84 is-85 (ws-102 .0) (ws-102 .1 .0) (ws-102 .1 .1 .0) p-101 w-100 e-103 is-104)))))))))))))))))))))
 
-      from-15-34-4 : (qq : Kit-Post 𝓤 H) (ee : post 𝓤 H qq returnsᴼ ≡ atReturn 𝓤 H En Post returnsᴼ) (zs-8 : List ℕ) (len-9 : length zs-8 ≡ length h5) (p-4 : SReceived.Received) (w-3 : Val) (e-6 : (p-4 ≡ receivedBy (readOf h5)) × (zs-8 ≡ h5)) (is-7 : Is R-Received p-4 (w-3 ∷ [])) (left1 : Holds (not (p-4 .barred))) (good : Holds (not (not (eqb (length h3) 5)))) (u-24 : Val) (g-25 : Is R-SettingsWords (h1 .settings) (u-24 ∷ [])) (u-28 : Val) (g-29 : Is R-StateWords (h1 .state) (u-28 ∷ [])) (held2 : Holds (p-4 .announces)) (p-31 : ℕ) (w-30 : Val) (e-32 : p-31 ≡ intervalOf ((h1 .settings) .announce)) (is-33 : Is R-u32 p-31 (w-30 ∷ [])) (g-34 : Is R-MasterWords (el 0) (v-MasterWords (el 0))) (p-36 : SLooked.Looked) (w-35 : Val) (e-37 : p-36 ≡ lookedOf (p-4 .message) h6 p-31 (recordIn (el 0))) (is-38 : Is R-Looked p-36 (w-35 ∷ [])) (g-39 : Is R-MasterWords (el 1) (v-MasterWords (el 1))) (p-41 : SLooked.Looked) (w-40 : Val) (e-42 : p-41 ≡ lookedOf (p-4 .message) h6 p-31 (recordIn (el 1))) (is-43 : Is R-Looked p-41 (w-40 ∷ [])) (g-44 : Is R-MasterWords (el 2) (v-MasterWords (el 2))) (p-46 : SLooked.Looked) (w-45 : Val) (e-47 : p-46 ≡ lookedOf (p-4 .message) h6 p-31 (recordIn (el 2))) (is-48 : Is R-Looked p-46 (w-45 ∷ [])) (g-49 : Is R-MasterWords (el 3) (v-MasterWords (el 3))) (p-51 : SLooked.Looked) (w-50 : Val) (e-52 : p-51 ≡ lookedOf (p-4 .message) h6 p-31 (recordIn (el 3))) (is-53 : Is R-Looked p-51 (w-50 ∷ [])) (g-54 : Is R-MasterWords (el 4) (v-MasterWords (el 4))) (p-56 : SLooked.Looked) (w-55 : Val) (e-57 : p-56 ≡ lookedOf (p-4 .message) h6 p-31 (recordIn (el 4))) (is-58 : Is R-Looked p-56 (w-55 ∷ [])) (p-60 : SSeat.Seat) (w-59 : Val) (e-61 : p-60 ≡ seatBy (h1 .settings) (h1 .state) (p-4 .message) h6 (p-36 .standing) (p-41 .standing) (p-46 .standing) (p-51 .standing) (p-56 .standing)) (is-62 : Is R-Seat p-60 (w-59 ∷ [])) (left3 : Holds (not (p-60 .barred))) (g-69 : Is R-MasterWords (el (p-60 .at)) (v-MasterWords (el (p-60 .at)))) (p-71 : SMasterWords.MasterWords) (w-70 : Val) (e-72 : p-71 ≡ placedOf (el (p-60 .at)) (p-4 .message) (p-60 .known) h6) (is-73 : Is R-MasterWords p-71 (w-70 ∷ [])) (p-75 : SHeld.Held) (w-74 : Val) (e-76 : p-75 ≡ heldOf (h1 .state) h6 (bestWith (p-60 .at) (candidateOf h6 p-31 (recordIn p-71)) (p-36 .candidate) (p-41 .candidate) (p-46 .candidate) (p-51 .candidate) (p-56 .candidate))) (is-77 : Is R-Held p-75 (w-74 ∷ [])) (held4 : Holds (p-75 .wipes)) (p-83 : SEmptied.Emptied) (w-82 : Val) (e-84 : p-83 ≡ emptiedOf (h1 .settings)) (is-85 : Is R-Emptied p-83 (w-82 ∷ [])) → Sq W (‵ (fobs γ1 (R-UnitWords .coded .code (with-UnitWords-3 (with-UnitWords-2 (with-UnitWords-1 h1 (p-75 .state)) (p-83 .halves)) (p-83 .delays)))) ∷ ‵ (fbor κ1 (Body (mem R-UnitWords) b1 o1 γ1)) ∷ ‵ (flft κ1 q1) ∷ ‵ (fobs γ8 (R-AnswerWords .coded .code (p-75 .answer))) ∷ ‵ (fbor κ8 (Body (mem R-AnswerWords) b8 o8 γ8)) ∷ ‵ (flft κ8 q8) ∷ ‵ (fobs γ3 (codedHoleys R-MasterWords .code (heres R-MasterWords (set h3 (p-60 .at) p-71)))) ∷ ‵ (fbor κ3 (Held R-MasterWords (length (set h3 (p-60 .at) p-71)) b3 o3 γ3)) ∷ ‵ (flft κ3 q3) ∷ ‵ (MutSlice (named 4) κ5 R-u8 .own (x5 zs-8) ((sliceVal (b5, o5) (length h5)) ∷ [])) ∷ ‵ (flft κ5 q5) ∷ ‵ (flft κ4 q4) ∷ ‵ (flft κ2 q2) ∷ ‵ (ftrue) ∷ ‵ (R-Stamp .own h7 (u7 ∷ [])) ∷ ‵ (R-u64 .own h6 (u6 ∷ [])) ∷ ‵ (fobs γ4 (R-Watch .coded .code h4)) ∷ ‵ (fbor κ4 (Body (mem R-Watch) b4 o4 γ4)) ∷ ‵ (at-slice R-MasterWords (x3 h3) ((sliceVal (b3, o3) (length h3)) ∷ [])) ∷ ‵ (fobs γ2 (R-Servo .coded .code h2)) ∷ ‵ (fbor κ2 (Body (mem R-Servo) b2 o2 γ2)) ∷ ‵ (froom (tyRef erased mut (pointee (R-u8x128 .written))) l61 0) ∷ ‵ (fdies (tyRef erased mut (pointee (R-u8x128 .written))) l61) ∷ ‵ (froom (tyRef erased mut (pointee (R-i32x128 .written))) l60 0) ∷ ‵ (fdies (tyRef erased mut (pointee (R-i32x128 .written))) l60) ∷ ‵ (froom (tyRef erased mut (pointee (R-i64x128 .written))) l59 0) ∷ ‵ (fdies (tyRef erased mut (pointee (R-i64x128 .written))) l59) ∷ ‵ (froom MHead′.mir l58 0) ∷ ‵ (fdies MHead′.mir l58) ∷ ‵ (froom MAnswerWords′.mir l57 0) ∷ ‵ (fdies MAnswerWords′.mir l57) ∷ ‵ (froom MAnswerWords′.mir l56 0) ∷ ‵ (fdies MAnswerWords′.mir l56) ∷ ‵ (froom (tyRef erased mut (pointee (R-u8x128 .written))) l55 0) ∷ ‵ (fdies (tyRef erased mut (pointee (R-u8x128 .written))) l55) ∷ ‵ (froom (tyRef erased mut (pointee (R-i32x128 .written))) l54 0) ∷ ‵ (fdies (tyRef erased mut (pointee (R-i32x128 .written))) l54) ∷ ‵ (froom (tyRef erased mut (pointee (R-i64x128 .written))) l53 0) ∷ ‵ (fdies (tyRef erased mut (pointee (R-i64x128 .written))) l53) ∷ ‵ (froom MHead′.mir l52 0) ∷ ‵ (fdies MHead′.mir l52) ∷ ‵ (froom tyPtr l51 0) ∷ ‵ (fdies tyPtr l51) ∷ ‵ (froom tyPtr l50 0) ∷ ‵ (fdies tyPtr l50) ∷ ‵ (froom (tyInt w64) l49 0) ∷ ‵ (fdies (tyInt w64) l49) ∷ ‵ (froom MAnswerWords′.mir l48 0) ∷ ‵ (fdies MAnswerWords′.mir l48) ∷ ‵ (froom tyBool l47 0) ∷ ‵ (fdies tyBool l47) ∷ ‵ (froom tyPtr l46 0) ∷ ‵ (fdies tyPtr l46) ∷ ‵ (froom tyPtr l45 0) ∷ ‵ (fdies tyPtr l45) ∷ ‵ (froom tyPtr l44 0) ∷ ‵ (fdies tyPtr l44) ∷ ‵ (froom tyPtr l43 0) ∷ ‵ (fdies tyPtr l43) ∷ ‵ (froom MMasterWords′.mir l42 0) ∷ ‵ (fdies MMasterWords′.mir l42) ∷ ‵ (froom tyPtr l41 0) ∷ ‵ (fdies tyPtr l41) ∷ ‵ (froom MAnswerWords′.mir l40 0) ∷ ‵ (fdies MAnswerWords′.mir l40) ∷ ‵ (froom (tyInt w64) l39 0) ∷ ‵ (fdies (tyInt w64) l39) ∷ ‵ (froom MAnswerWords′.mir l38 0) ∷ ‵ (fdies MAnswerWords′.mir l38) ∷ ‵ (froom tyBool l37 0) ∷ ‵ (fdies tyBool l37) ∷ ‵ (froom (sliceTy (tyRef erased mut (tyInt w8))) l36 0) ∷ ‵ (fdies (sliceTy (tyRef erased mut (tyInt w8))) l36) ∷ ‵ (froom (tyRef erased mut (tyInt w8)) l35 0) ∷ ‵ (fdies (tyRef erased mut (tyInt w8)) l35) ∷ ‵ (froom tyBool l34 0) ∷ ‵ (fdies tyBool l34) ∷ ‵ (froom MServo′.mir l33 0) ∷ ‵ (fdies MServo′.mir l33) ∷ ‵ (froom MServo′.mir l32 0) ∷ ‵ (fdies MServo′.mir l32) ∷ ‵ (froom tyBool l31 0) ∷ ‵ (fdies tyBool l31) ∷ ‵ (froom MTold′.mir l30 0) ∷ ‵ (fdies MTold′.mir l30) ∷ ‵ (froom MDelaysWords′.mir l29 0) ∷ ‵ (fdies MDelaysWords′.mir l29) ∷ ‵ (froom MHalvesWords′.mir l28 0) ∷ ‵ (fdies MHalvesWords′.mir l28) ∷ ‵ (fat fullShare MEmptied′.mir l27 0 (vstruct (ofList ((parts-Emptied p-83 w-82 is-85) .pu0 ∷ (parts-Emptied p-83 w-82 is-85) .pu1 ∷ (parts-Emptied p-83 w-82 is-85) .pu2 ∷ [])))) ∷ ‵ (fdies MEmptied′.mir l27) ∷ ‵ (froom tyBool l26 0) ∷ ‵ (fdies tyBool l26) ∷ ‵ (froom MHeld′.mir l25 0) ∷ ‵ (fdies MHeld′.mir l25) ∷ ‵ (froom MMasterWords′.mir l24 0) ∷ ‵ (fdies MMasterWords′.mir l24) ∷ ‵ (froom (tyInt w64) l23 0) ∷ ‵ (fdies (tyInt w64) l23) ∷ ‵ (froom tyBool l22 0) ∷ ‵ (fdies tyBool l22) ∷ ‵ (froom MSeat′.mir l21 0) ∷ ‵ (fdies MSeat′.mir l21) ∷ ‵ (froom MLooked′.mir l20 0) ∷ ‵ (fdies MLooked′.mir l20) ∷ ‵ (froom MLooked′.mir l19 0) ∷ ‵ (fdies MLooked′.mir l19) ∷ ‵ (froom MLooked′.mir l18 0) ∷ ‵ (fdies MLooked′.mir l18) ∷ ‵ (froom MLooked′.mir l17 0) ∷ ‵ (fdies MLooked′.mir l17) ∷ ‵ (froom MLooked′.mir l16 0) ∷ ‵ (fdies MLooked′.mir l16) ∷ ‵ (froom (tyInt w32) l15 0) ∷ ‵ (fdies (tyInt w32) l15) ∷ ‵ (froom tyBool l14 0) ∷ ‵ (fdies tyBool l14) ∷ ‵ (froom MStateWords′.mir l13 0) ∷ ‵ (fdies MStateWords′.mir l13) ∷ ‵ (froom MSettingsWords′.mir l12 0) ∷ ‵ (fdies MSettingsWords′.mir l12) ∷ ‵ (froom MMessage′.mir l11 0) ∷ ‵ (fdies MMessage′.mir l11) ∷ ‵ (froom tyBool l10 0) ∷ ‵ (fdies tyBool l10) ∷ ‵ (froom MReceived′.mir l9 0) ∷ ‵ (fdies MReceived′.mir l9) ∷ ‵ (froom (tyRef (named 5) mut (pointee (R-AnswerWords .written))) l8 0) ∷ ‵ (fdies (tyRef (named 5) mut (pointee (R-AnswerWords .written))) l8) ∷ ‵ (froom MStamp′.mir l7 0) ∷ ‵ (fdies MStamp′.mir l7) ∷ ‵ (froom (tyInt w64) l6 0) ∷ ‵ (fdies (tyInt w64) l6) ∷ ‵ (froom (sliceTy (tyRef (named 4) mut (tyInt w8))) l5 0) ∷ ‵ (fdies (sliceTy (tyRef (named 4) mut (tyInt w8))) l5) ∷ ‵ (fat fullShare (tyRef (named 3) mut (pointee (R-Watch .written))) l4 0 (vptr b4 o4)) ∷ ‵ (fdies (tyRef (named 3) mut (pointee (R-Watch .written))) l4) ∷ ‵ (froom (sliceTy (tyRef (named 2) mut (pointee (R-MasterWords .written)))) l3 0) ∷ ‵ (fdies (sliceTy (tyRef (named 2) mut (pointee (R-MasterWords .written)))) l3) ∷ ‵ (fat fullShare (tyRef (named 1) mut (pointee (R-Servo .written))) l2 0 (vptr b2 o2)) ∷ ‵ (fdies (tyRef (named 1) mut (pointee (R-Servo .written))) l2) ∷ ‵ (froom (tyRef (named 0) mut (pointee (R-UnitWords .written))) l1 0) ∷ ‵ (fdies (tyRef (named 0) mut (pointee (R-UnitWords .written))) l1) ∷ ‵ (froom tyUnit l0 0) ∷ ‵ (fdies tyUnit l0) ∷ []) (runs C Λ En i-15-34-4 qq)
+      from-15-34-4 : (qq : Kit-Post 𝓤 H) (ee : post 𝓤 H qq returnsᴼ ≡ atReturn 𝓤 H En Post returnsᴼ) (zs-8 : List ℕ) (len-9 : length zs-8 ≡ length h5) (p-4 : SReceived.Received) (w-3 : Val) (e-6 : (p-4 ≡ receivedBy (readOf h5)) × (zs-8 ≡ h5)) (is-7 : Is R-Received p-4 (w-3 ∷ [])) (left1 : Holds (not (p-4 .barred))) (good : Holds (not (not (eqb (length h3) 5)))) (u-24 : Val) (g-25 : Is R-SettingsWords (h1 .settings) (u-24 ∷ [])) (u-28 : Val) (g-29 : Is R-StateWords (h1 .state) (u-28 ∷ [])) (held2 : Holds (p-4 .announces)) (p-31 : ℕ) (w-30 : Val) (e-32 : p-31 ≡ intervalOf ((h1 .settings) .announce)) (is-33 : Is R-u32 p-31 (w-30 ∷ [])) (g-34 : Is R-MasterWords (el 0) (v-MasterWords (el 0))) (p-36 : SLooked.Looked) (w-35 : Val) (e-37 : p-36 ≡ lookedOf (p-4 .message) h6 p-31 (recordIn (el 0))) (is-38 : Is R-Looked p-36 (w-35 ∷ [])) (g-39 : Is R-MasterWords (el 1) (v-MasterWords (el 1))) (p-41 : SLooked.Looked) (w-40 : Val) (e-42 : p-41 ≡ lookedOf (p-4 .message) h6 p-31 (recordIn (el 1))) (is-43 : Is R-Looked p-41 (w-40 ∷ [])) (g-44 : Is R-MasterWords (el 2) (v-MasterWords (el 2))) (p-46 : SLooked.Looked) (w-45 : Val) (e-47 : p-46 ≡ lookedOf (p-4 .message) h6 p-31 (recordIn (el 2))) (is-48 : Is R-Looked p-46 (w-45 ∷ [])) (g-49 : Is R-MasterWords (el 3) (v-MasterWords (el 3))) (p-51 : SLooked.Looked) (w-50 : Val) (e-52 : p-51 ≡ lookedOf (p-4 .message) h6 p-31 (recordIn (el 3))) (is-53 : Is R-Looked p-51 (w-50 ∷ [])) (g-54 : Is R-MasterWords (el 4) (v-MasterWords (el 4))) (p-56 : SLooked.Looked) (w-55 : Val) (e-57 : p-56 ≡ lookedOf (p-4 .message) h6 p-31 (recordIn (el 4))) (is-58 : Is R-Looked p-56 (w-55 ∷ [])) (p-60 : SSeat.Seat) (w-59 : Val) (e-61 : p-60 ≡ seatBy (h1 .settings) (h1 .state) (p-4 .message) h6 (p-36 .standing) (p-41 .standing) (p-46 .standing) (p-51 .standing) (p-56 .standing)) (is-62 : Is R-Seat p-60 (w-59 ∷ [])) (left3 : Holds (not (p-60 .barred))) (g-69 : Is R-MasterWords (el (p-60 .at)) (v-MasterWords (el (p-60 .at)))) (p-71 : SMasterWords.MasterWords) (w-70 : Val) (e-72 : p-71 ≡ placedOf (el (p-60 .at)) (p-4 .message) (p-60 .known) h6) (is-73 : Is R-MasterWords p-71 (w-70 ∷ [])) (p-75 : SHeld.Held) (w-74 : Val) (e-76 : p-75 ≡ heldOf (h1 .state) h6 (bestWith (p-60 .at) (candidateOf h6 p-31 (recordIn p-71)) (p-36 .candidate) (p-41 .candidate) (p-46 .candidate) (p-51 .candidate) (p-56 .candidate))) (is-77 : Is R-Held p-75 (w-74 ∷ [])) (held4 : Holds (p-75 .wipes)) (p-83 : SEmptied.Emptied) (w-82 : Val) (e-84 : p-83 ≡ emptiedOf (h1 .settings)) (is-85 : Is R-Emptied p-83 (w-82 ∷ [])) → Sq W (‵ (fobs γ1 (R-UnitWords .coded .code (with-UnitWords-3 (with-UnitWords-2 (with-UnitWords-1 h1 (p-75 .state)) (p-83 .halves)) (p-83 .delays)))) ∷ ‵ (fbor κ1 (Body (mem R-UnitWords) b1 o1 γ1)) ∷ ‵ (flft κ1 q1) ∷ ‵ (fobs γ8 (R-AnswerWords .coded .code (p-75 .answer))) ∷ ‵ (fbor κ8 (Body (mem R-AnswerWords) b8 o8 γ8)) ∷ ‵ (flft κ8 q8) ∷ ‵ (fobs γ3 (codedHoleys R-MasterWords .code (heres R-MasterWords (set h3 (p-60 .at) p-71)))) ∷ ‵ (fbor κ3 (Held R-MasterWords (length (set h3 (p-60 .at) p-71)) b3 o3 γ3)) ∷ ‵ (flft κ3 q3) ∷ ‵ (MutSlice (named 4) κ5 R-u8 .own (x5 zs-8) ((sliceVal (b5, o5) (length h5)) ∷ [])) ∷ ‵ (flft κ5 q5) ∷ ‵ (flft κ4 q4) ∷ ‵ (flft κ2 q2) ∷ ‵ (ftrue) ∷ ‵ (R-Stamp .own h7 (u7 ∷ [])) ∷ ‵ (R-u64 .own h6 (u6 ∷ [])) ∷ ‵ (fobs γ4 (R-Watch .coded .code h4)) ∷ ‵ (fbor κ4 (Body (mem R-Watch) b4 o4 γ4)) ∷ ‵ (at-slice R-MasterWords (x3 h3) ((sliceVal (b3, o3) (length h3)) ∷ [])) ∷ ‵ (fobs γ2 (R-Servo .coded .code h2)) ∷ ‵ (fbor κ2 (Body (mem R-Servo) b2 o2 γ2)) ∷ ‵ (froom (tyRef erased mut (pointee (R-u8x128 .written))) l65 0) ∷ ‵ (fdies (tyRef erased mut (pointee (R-u8x128 .written))) l65) ∷ ‵ (froom (tyRef erased mut (pointee (R-i32x128 .written))) l64 0) ∷ ‵ (fdies (tyRef erased mut (pointee (R-i32x128 .written))) l64) ∷ ‵ (froom (tyRef erased mut (pointee (R-i64x128 .written))) l63 0) ∷ ‵ (fdies (tyRef erased mut (pointee (R-i64x128 .written))) l63) ∷ ‵ (froom MHead′.mir l62 0) ∷ ‵ (fdies MHead′.mir l62) ∷ ‵ (froom MAnswerWords′.mir l61 0) ∷ ‵ (fdies MAnswerWords′.mir l61) ∷ ‵ (froom MAnswerWords′.mir l60 0) ∷ ‵ (fdies MAnswerWords′.mir l60) ∷ ‵ (froom (tyRef erased mut (pointee (R-u8x128 .written))) l59 0) ∷ ‵ (fdies (tyRef erased mut (pointee (R-u8x128 .written))) l59) ∷ ‵ (froom (tyRef erased mut (pointee (R-i32x128 .written))) l58 0) ∷ ‵ (fdies (tyRef erased mut (pointee (R-i32x128 .written))) l58) ∷ ‵ (froom (tyRef erased mut (pointee (R-i64x128 .written))) l57 0) ∷ ‵ (fdies (tyRef erased mut (pointee (R-i64x128 .written))) l57) ∷ ‵ (froom MHead′.mir l56 0) ∷ ‵ (fdies MHead′.mir l56) ∷ ‵ (froom tyPtr l55 0) ∷ ‵ (fdies tyPtr l55) ∷ ‵ (froom tyPtr l54 0) ∷ ‵ (fdies tyPtr l54) ∷ ‵ (froom (tyInt w64) l53 0) ∷ ‵ (fdies (tyInt w64) l53) ∷ ‵ (froom MAnswerWords′.mir l52 0) ∷ ‵ (fdies MAnswerWords′.mir l52) ∷ ‵ (froom tyBool l51 0) ∷ ‵ (fdies tyBool l51) ∷ ‵ (froom tyPtr l50 0) ∷ ‵ (fdies tyPtr l50) ∷ ‵ (froom tyPtr l49 0) ∷ ‵ (fdies tyPtr l49) ∷ ‵ (froom tyPtr l48 0) ∷ ‵ (fdies tyPtr l48) ∷ ‵ (froom tyPtr l47 0) ∷ ‵ (fdies tyPtr l47) ∷ ‵ (froom MMasterWords′.mir l46 0) ∷ ‵ (fdies MMasterWords′.mir l46) ∷ ‵ (froom tyPtr l45 0) ∷ ‵ (fdies tyPtr l45) ∷ ‵ (froom MAnswerWords′.mir l44 0) ∷ ‵ (fdies MAnswerWords′.mir l44) ∷ ‵ (froom (tyInt w64) l43 0) ∷ ‵ (fdies (tyInt w64) l43) ∷ ‵ (froom MAnswerWords′.mir l42 0) ∷ ‵ (fdies MAnswerWords′.mir l42) ∷ ‵ (froom tyBool l41 0) ∷ ‵ (fdies tyBool l41) ∷ ‵ (froom (sliceTy (tyRef erased mut (tyInt w8))) l40 0) ∷ ‵ (fdies (sliceTy (tyRef erased mut (tyInt w8))) l40) ∷ ‵ (froom (tyRef erased mut (tyInt w8)) l39 0) ∷ ‵ (fdies (tyRef erased mut (tyInt w8)) l39) ∷ ‵ (froom (tyInt w16) l38 0) ∷ ‵ (fdies (tyInt w16) l38) ∷ ‵ (froom (tyInt w8) l37 0) ∷ ‵ (fdies (tyInt w8) l37) ∷ ‵ (froom MServo′.mir l36 0) ∷ ‵ (fdies MServo′.mir l36) ∷ ‵ (froom tyBool l35 0) ∷ ‵ (fdies tyBool l35) ∷ ‵ (froom tyBool l34 0) ∷ ‵ (fdies tyBool l34) ∷ ‵ (froom MAccepted′.mir l33 0) ∷ ‵ (fdies MAccepted′.mir l33) ∷ ‵ (froom MServo′.mir l32 0) ∷ ‵ (fdies MServo′.mir l32) ∷ ‵ (froom tyBool l31 0) ∷ ‵ (fdies tyBool l31) ∷ ‵ (froom MTold′.mir l30 0) ∷ ‵ (fdies MTold′.mir l30) ∷ ‵ (froom MDelaysWords′.mir l29 0) ∷ ‵ (fdies MDelaysWords′.mir l29) ∷ ‵ (froom MHalvesWords′.mir l28 0) ∷ ‵ (fdies MHalvesWords′.mir l28) ∷ ‵ (fat fullShare MEmptied′.mir l27 0 (vstruct (ofList ((parts-Emptied p-83 w-82 is-85) .pu0 ∷ (parts-Emptied p-83 w-82 is-85) .pu1 ∷ (parts-Emptied p-83 w-82 is-85) .pu2 ∷ [])))) ∷ ‵ (fdies MEmptied′.mir l27) ∷ ‵ (froom tyBool l26 0) ∷ ‵ (fdies tyBool l26) ∷ ‵ (froom MHeld′.mir l25 0) ∷ ‵ (fdies MHeld′.mir l25) ∷ ‵ (froom MMasterWords′.mir l24 0) ∷ ‵ (fdies MMasterWords′.mir l24) ∷ ‵ (froom (tyInt w64) l23 0) ∷ ‵ (fdies (tyInt w64) l23) ∷ ‵ (froom tyBool l22 0) ∷ ‵ (fdies tyBool l22) ∷ ‵ (froom MSeat′.mir l21 0) ∷ ‵ (fdies MSeat′.mir l21) ∷ ‵ (froom MLooked′.mir l20 0) ∷ ‵ (fdies MLooked′.mir l20) ∷ ‵ (froom MLooked′.mir l19 0) ∷ ‵ (fdies MLooked′.mir l19) ∷ ‵ (froom MLooked′.mir l18 0) ∷ ‵ (fdies MLooked′.mir l18) ∷ ‵ (froom MLooked′.mir l17 0) ∷ ‵ (fdies MLooked′.mir l17) ∷ ‵ (froom MLooked′.mir l16 0) ∷ ‵ (fdies MLooked′.mir l16) ∷ ‵ (froom (tyInt w32) l15 0) ∷ ‵ (fdies (tyInt w32) l15) ∷ ‵ (froom tyBool l14 0) ∷ ‵ (fdies tyBool l14) ∷ ‵ (froom MStateWords′.mir l13 0) ∷ ‵ (fdies MStateWords′.mir l13) ∷ ‵ (froom MSettingsWords′.mir l12 0) ∷ ‵ (fdies MSettingsWords′.mir l12) ∷ ‵ (froom MMessage′.mir l11 0) ∷ ‵ (fdies MMessage′.mir l11) ∷ ‵ (froom tyBool l10 0) ∷ ‵ (fdies tyBool l10) ∷ ‵ (froom MReceived′.mir l9 0) ∷ ‵ (fdies MReceived′.mir l9) ∷ ‵ (froom (tyRef (named 5) mut (pointee (R-AnswerWords .written))) l8 0) ∷ ‵ (fdies (tyRef (named 5) mut (pointee (R-AnswerWords .written))) l8) ∷ ‵ (froom MStamp′.mir l7 0) ∷ ‵ (fdies MStamp′.mir l7) ∷ ‵ (froom (tyInt w64) l6 0) ∷ ‵ (fdies (tyInt w64) l6) ∷ ‵ (froom (sliceTy (tyRef (named 4) mut (tyInt w8))) l5 0) ∷ ‵ (fdies (sliceTy (tyRef (named 4) mut (tyInt w8))) l5) ∷ ‵ (fat fullShare (tyRef (named 3) mut (pointee (R-Watch .written))) l4 0 (vptr b4 o4)) ∷ ‵ (fdies (tyRef (named 3) mut (pointee (R-Watch .written))) l4) ∷ ‵ (froom (sliceTy (tyRef (named 2) mut (pointee (R-MasterWords .written)))) l3 0) ∷ ‵ (fdies (sliceTy (tyRef (named 2) mut (pointee (R-MasterWords .written)))) l3) ∷ ‵ (fat fullShare (tyRef (named 1) mut (pointee (R-Servo .written))) l2 0 (vptr b2 o2)) ∷ ‵ (fdies (tyRef (named 1) mut (pointee (R-Servo .written))) l2) ∷ ‵ (froom (tyRef (named 0) mut (pointee (R-UnitWords .written))) l1 0) ∷ ‵ (fdies (tyRef (named 0) mut (pointee (R-UnitWords .written))) l1) ∷ ‵ (froom tyUnit l0 0) ∷ ‵ (fdies tyUnit l0) ∷ []) (runs C Λ En i-15-34-4 qq)
       from-15-34-4 qq ee zs-8 len-9 p-4 w-3 e-6 is-7 left1 good u-24 g-25 u-28 g-29 held2 p-31 w-30 e-32 is-33 g-34 p-36 w-35 e-37 is-38 g-39 p-41 w-40 e-42 is-43 g-44 p-46 w-45 e-47 is-48 g-49 p-51 w-50 e-52 is-53 g-54 p-56 w-55 e-57 is-58 p-60 w-59 e-61 is-62 left3 g-69 p-71 w-70 e-72 is-73 p-75 w-74 e-76 is-77 held4 p-83 w-82 e-84 is-85 =
           move ! (19 ∷ 20 ∷ 12 ∷ []) $
           opens ! tt R-Servo {h = h2} b2 o2 (λ vs-90.
@@ -2144,15 +2144,15 @@ module _ {M : Type 1} (𝓤 : URA M) (H : Heap 𝓤) (A : Atoms 𝓤) (W : Given
           peeks ! R-Servo (Is R-Servo) (shows 𝓤 H A R-Servo) h2 vs-90 (λ g-91.
           rewrite ! 0 (λ (us : List Val). ‵ (R-Servo .own h2 us)) (lone-Servo h2 vs-90 g-91) refl $
           rewrite ! 1 (λ (us : List Val). ‵ (cellAt fullShare (R-Servo .mir) us b2 o2)) (lone-Servo h2 vs-90 g-91) refl $
-          assigns ! (of-opd ! (load ! (from ! (fld ! {τ = MServo′.mir} {d = off-Emptied-2} field-Emptied-2 (stop !))) (look-in ! 91 (sub ! {ν = name-of MEmptied′.mir} {τs = tys-of MEmptied′.mir} 2 {τ = MServo′.mir} {d = off-Emptied-2} field-Emptied-2 (whole !))))) (from ! (hop ! (look ! 141 refl) (stop !))) (store-raw ! 1 refl (lawful-Servo 𝓤 H A W .typed (p-83 .servo) _ ((parts-Emptied p-83 w-82 is-85) .pg2) .0)) $
+          assigns ! (of-opd ! (load ! (from ! (fld ! {τ = MServo′.mir} {d = off-Emptied-2} field-Emptied-2 (stop !))) (look-in ! 99 (sub ! {ν = name-of MEmptied′.mir} {τs = tys-of MEmptied′.mir} 2 {τ = MServo′.mir} {d = off-Emptied-2} field-Emptied-2 (whole !))))) (from ! (hop ! (look ! 149 refl) (stop !))) (store-raw ! 1 refl (lawful-Servo 𝓤 H A W .typed (p-83 .servo) _ ((parts-Emptied p-83 w-82 is-85) .pg2) .0)) $
           drop ! $
           owned ! R-Servo (Is R-Servo) (makes-Servo 𝓤 H A W) (p-83 .servo) _ ((parts-Emptied p-83 w-82 is-85) .pg2) $
           move ! (1 ∷ 0 ∷ 2 ∷ 3 ∷ 4 ∷ []) $
           closes ! tt R-Servo (p-83 .servo) (((parts-Emptied p-83 w-82 is-85) .pu2) ∷ []) b2 o2 $
-          forget ! 139 refl $ forget ! 89 refl $
+          forget ! 147 refl $ forget ! 97 refl $
           from-15-34-5 qq ee zs-8 len-9 p-4 w-3 e-6 is-7 left1 good u-24 g-25 u-28 g-29 held2 p-31 w-30 e-32 is-33 g-34 p-36 w-35 e-37 is-38 g-39 p-41 w-40 e-42 is-43 g-44 p-46 w-45 e-47 is-48 g-49 p-51 w-50 e-52 is-53 g-54 p-56 w-55 e-57 is-58 p-60 w-59 e-61 is-62 left3 g-69 p-71 w-70 e-72 is-73 p-75 w-74 e-76 is-77 held4 p-83 w-82 e-84 is-85))
 
-      from-15-34-3 : (qq : Kit-Post 𝓤 H) (ee : post 𝓤 H qq returnsᴼ ≡ atReturn 𝓤 H En Post returnsᴼ) (zs-8 : List ℕ) (len-9 : length zs-8 ≡ length h5) (p-4 : SReceived.Received) (w-3 : Val) (e-6 : (p-4 ≡ receivedBy (readOf h5)) × (zs-8 ≡ h5)) (is-7 : Is R-Received p-4 (w-3 ∷ [])) (left1 : Holds (not (p-4 .barred))) (good : Holds (not (not (eqb (length h3) 5)))) (u-24 : Val) (g-25 : Is R-SettingsWords (h1 .settings) (u-24 ∷ [])) (u-28 : Val) (g-29 : Is R-StateWords (h1 .state) (u-28 ∷ [])) (held2 : Holds (p-4 .announces)) (p-31 : ℕ) (w-30 : Val) (e-32 : p-31 ≡ intervalOf ((h1 .settings) .announce)) (is-33 : Is R-u32 p-31 (w-30 ∷ [])) (g-34 : Is R-MasterWords (el 0) (v-MasterWords (el 0))) (p-36 : SLooked.Looked) (w-35 : Val) (e-37 : p-36 ≡ lookedOf (p-4 .message) h6 p-31 (recordIn (el 0))) (is-38 : Is R-Looked p-36 (w-35 ∷ [])) (g-39 : Is R-MasterWords (el 1) (v-MasterWords (el 1))) (p-41 : SLooked.Looked) (w-40 : Val) (e-42 : p-41 ≡ lookedOf (p-4 .message) h6 p-31 (recordIn (el 1))) (is-43 : Is R-Looked p-41 (w-40 ∷ [])) (g-44 : Is R-MasterWords (el 2) (v-MasterWords (el 2))) (p-46 : SLooked.Looked) (w-45 : Val) (e-47 : p-46 ≡ lookedOf (p-4 .message) h6 p-31 (recordIn (el 2))) (is-48 : Is R-Looked p-46 (w-45 ∷ [])) (g-49 : Is R-MasterWords (el 3) (v-MasterWords (el 3))) (p-51 : SLooked.Looked) (w-50 : Val) (e-52 : p-51 ≡ lookedOf (p-4 .message) h6 p-31 (recordIn (el 3))) (is-53 : Is R-Looked p-51 (w-50 ∷ [])) (g-54 : Is R-MasterWords (el 4) (v-MasterWords (el 4))) (p-56 : SLooked.Looked) (w-55 : Val) (e-57 : p-56 ≡ lookedOf (p-4 .message) h6 p-31 (recordIn (el 4))) (is-58 : Is R-Looked p-56 (w-55 ∷ [])) (p-60 : SSeat.Seat) (w-59 : Val) (e-61 : p-60 ≡ seatBy (h1 .settings) (h1 .state) (p-4 .message) h6 (p-36 .standing) (p-41 .standing) (p-46 .standing) (p-51 .standing) (p-56 .standing)) (is-62 : Is R-Seat p-60 (w-59 ∷ [])) (left3 : Holds (not (p-60 .barred))) (g-69 : Is R-MasterWords (el (p-60 .at)) (v-MasterWords (el (p-60 .at)))) (p-71 : SMasterWords.MasterWords) (w-70 : Val) (e-72 : p-71 ≡ placedOf (el (p-60 .at)) (p-4 .message) (p-60 .known) h6) (is-73 : Is R-MasterWords p-71 (w-70 ∷ [])) (p-75 : SHeld.Held) (w-74 : Val) (e-76 : p-75 ≡ heldOf (h1 .state) h6 (bestWith (p-60 .at) (candidateOf h6 p-31 (recordIn p-71)) (p-36 .candidate) (p-41 .candidate) (p-46 .candidate) (p-51 .candidate) (p-56 .candidate))) (is-77 : Is R-Held p-75 (w-74 ∷ [])) (held4 : Holds (p-75 .wipes)) (p-83 : SEmptied.Emptied) (w-82 : Val) (e-84 : p-83 ≡ emptiedOf (h1 .settings)) (is-85 : Is R-Emptied p-83 (w-82 ∷ [])) → Sq W (‵ (fobs γ1 (R-UnitWords .coded .code (with-UnitWords-2 (with-UnitWords-1 h1 (p-75 .state)) (p-83 .halves)))) ∷ ‵ (fbor κ1 (Body (mem R-UnitWords) b1 o1 γ1)) ∷ ‵ (flft κ1 q1) ∷ ‵ (fobs γ8 (R-AnswerWords .coded .code (p-75 .answer))) ∷ ‵ (fbor κ8 (Body (mem R-AnswerWords) b8 o8 γ8)) ∷ ‵ (flft κ8 q8) ∷ ‵ (fobs γ3 (codedHoleys R-MasterWords .code (heres R-MasterWords (set h3 (p-60 .at) p-71)))) ∷ ‵ (fbor κ3 (Held R-MasterWords (length (set h3 (p-60 .at) p-71)) b3 o3 γ3)) ∷ ‵ (flft κ3 q3) ∷ ‵ (MutSlice (named 4) κ5 R-u8 .own (x5 zs-8) ((sliceVal (b5, o5) (length h5)) ∷ [])) ∷ ‵ (flft κ5 q5) ∷ ‵ (flft κ4 q4) ∷ ‵ (flft κ2 q2) ∷ ‵ (ftrue) ∷ ‵ (R-Stamp .own h7 (u7 ∷ [])) ∷ ‵ (R-u64 .own h6 (u6 ∷ [])) ∷ ‵ (fobs γ4 (R-Watch .coded .code h4)) ∷ ‵ (fbor κ4 (Body (mem R-Watch) b4 o4 γ4)) ∷ ‵ (at-slice R-MasterWords (x3 h3) ((sliceVal (b3, o3) (length h3)) ∷ [])) ∷ ‵ (fobs γ2 (R-Servo .coded .code h2)) ∷ ‵ (fbor κ2 (Body (mem R-Servo) b2 o2 γ2)) ∷ ‵ (froom (tyRef erased mut (pointee (R-u8x128 .written))) l61 0) ∷ ‵ (fdies (tyRef erased mut (pointee (R-u8x128 .written))) l61) ∷ ‵ (froom (tyRef erased mut (pointee (R-i32x128 .written))) l60 0) ∷ ‵ (fdies (tyRef erased mut (pointee (R-i32x128 .written))) l60) ∷ ‵ (froom (tyRef erased mut (pointee (R-i64x128 .written))) l59 0) ∷ ‵ (fdies (tyRef erased mut (pointee (R-i64x128 .written))) l59) ∷ ‵ (froom MHead′.mir l58 0) ∷ ‵ (fdies MHead′.mir l58) ∷ ‵ (froom MAnswerWords′.mir l57 0) ∷ ‵ (fdies MAnswerWords′.mir l57) ∷ ‵ (froom MAnswerWords′.mir l56 0) ∷ ‵ (fdies MAnswerWords′.mir l56) ∷ ‵ (froom (tyRef erased mut (pointee (R-u8x128 .written))) l55 0) ∷ ‵ (fdies (tyRef erased mut (pointee (R-u8x128 .written))) l55) ∷ ‵ (froom (tyRef erased mut (pointee (R-i32x128 .written))) l54 0) ∷ ‵ (fdies (tyRef erased mut (pointee (R-i32x128 .written))) l54) ∷ ‵ (froom (tyRef erased mut (pointee (R-i64x128 .written))) l53 0) ∷ ‵ (fdies (tyRef erased mut (pointee (R-i64x128 .written))) l53) ∷ ‵ (froom MHead′.mir l52 0) ∷ ‵ (fdies MHead′.mir l52) ∷ ‵ (froom tyPtr l51 0) ∷ ‵ (fdies tyPtr l51) ∷ ‵ (froom tyPtr l50 0) ∷ ‵ (fdies tyPtr l50) ∷ ‵ (froom (tyInt w64) l49 0) ∷ ‵ (fdies (tyInt w64) l49) ∷ ‵ (froom MAnswerWords′.mir l48 0) ∷ ‵ (fdies MAnswerWords′.mir l48) ∷ ‵ (froom tyBool l47 0) ∷ ‵ (fdies tyBool l47) ∷ ‵ (froom tyPtr l46 0) ∷ ‵ (fdies tyPtr l46) ∷ ‵ (froom tyPtr l45 0) ∷ ‵ (fdies tyPtr l45) ∷ ‵ (froom tyPtr l44 0) ∷ ‵ (fdies tyPtr l44) ∷ ‵ (froom tyPtr l43 0) ∷ ‵ (fdies tyPtr l43) ∷ ‵ (froom MMasterWords′.mir l42 0) ∷ ‵ (fdies MMasterWords′.mir l42) ∷ ‵ (froom tyPtr l41 0) ∷ ‵ (fdies tyPtr l41) ∷ ‵ (froom MAnswerWords′.mir l40 0) ∷ ‵ (fdies MAnswerWords′.mir l40) ∷ ‵ (froom (tyInt w64) l39 0) ∷ ‵ (fdies (tyInt w64) l39) ∷ ‵ (froom MAnswerWords′.mir l38 0) ∷ ‵ (fdies MAnswerWords′.mir l38) ∷ ‵ (froom tyBool l37 0) ∷ ‵ (fdies tyBool l37) ∷ ‵ (froom (sliceTy (tyRef erased mut (tyInt w8))) l36 0) ∷ ‵ (fdies (sliceTy (tyRef erased mut (tyInt w8))) l36) ∷ ‵ (froom (tyRef erased mut (tyInt w8)) l35 0) ∷ ‵ (fdies (tyRef erased mut (tyInt w8)) l35) ∷ ‵ (froom tyBool l34 0) ∷ ‵ (fdies tyBool l34) ∷ ‵ (froom MServo′.mir l33 0) ∷ ‵ (fdies MServo′.mir l33) ∷ ‵ (froom MServo′.mir l32 0) ∷ ‵ (fdies MServo′.mir l32) ∷ ‵ (froom tyBool l31 0) ∷ ‵ (fdies tyBool l31) ∷ ‵ (froom MTold′.mir l30 0) ∷ ‵ (fdies MTold′.mir l30) ∷ ‵ (froom MDelaysWords′.mir l29 0) ∷ ‵ (fdies MDelaysWords′.mir l29) ∷ ‵ (froom MHalvesWords′.mir l28 0) ∷ ‵ (fdies MHalvesWords′.mir l28) ∷ ‵ (fat fullShare MEmptied′.mir l27 0 (vstruct (ofList ((parts-Emptied p-83 w-82 is-85) .pu0 ∷ (parts-Emptied p-83 w-82 is-85) .pu1 ∷ (parts-Emptied p-83 w-82 is-85) .pu2 ∷ [])))) ∷ ‵ (fdies MEmptied′.mir l27) ∷ ‵ (froom tyBool l26 0) ∷ ‵ (fdies tyBool l26) ∷ ‵ (froom MHeld′.mir l25 0) ∷ ‵ (fdies MHeld′.mir l25) ∷ ‵ (froom MMasterWords′.mir l24 0) ∷ ‵ (fdies MMasterWords′.mir l24) ∷ ‵ (froom (tyInt w64) l23 0) ∷ ‵ (fdies (tyInt w64) l23) ∷ ‵ (froom tyBool l22 0) ∷ ‵ (fdies tyBool l22) ∷ ‵ (froom MSeat′.mir l21 0) ∷ ‵ (fdies MSeat′.mir l21) ∷ ‵ (froom MLooked′.mir l20 0) ∷ ‵ (fdies MLooked′.mir l20) ∷ ‵ (froom MLooked′.mir l19 0) ∷ ‵ (fdies MLooked′.mir l19) ∷ ‵ (froom MLooked′.mir l18 0) ∷ ‵ (fdies MLooked′.mir l18) ∷ ‵ (froom MLooked′.mir l17 0) ∷ ‵ (fdies MLooked′.mir l17) ∷ ‵ (froom MLooked′.mir l16 0) ∷ ‵ (fdies MLooked′.mir l16) ∷ ‵ (froom (tyInt w32) l15 0) ∷ ‵ (fdies (tyInt w32) l15) ∷ ‵ (froom tyBool l14 0) ∷ ‵ (fdies tyBool l14) ∷ ‵ (froom MStateWords′.mir l13 0) ∷ ‵ (fdies MStateWords′.mir l13) ∷ ‵ (froom MSettingsWords′.mir l12 0) ∷ ‵ (fdies MSettingsWords′.mir l12) ∷ ‵ (froom MMessage′.mir l11 0) ∷ ‵ (fdies MMessage′.mir l11) ∷ ‵ (froom tyBool l10 0) ∷ ‵ (fdies tyBool l10) ∷ ‵ (froom MReceived′.mir l9 0) ∷ ‵ (fdies MReceived′.mir l9) ∷ ‵ (froom (tyRef (named 5) mut (pointee (R-AnswerWords .written))) l8 0) ∷ ‵ (fdies (tyRef (named 5) mut (pointee (R-AnswerWords .written))) l8) ∷ ‵ (froom MStamp′.mir l7 0) ∷ ‵ (fdies MStamp′.mir l7) ∷ ‵ (froom (tyInt w64) l6 0) ∷ ‵ (fdies (tyInt w64) l6) ∷ ‵ (froom (sliceTy (tyRef (named 4) mut (tyInt w8))) l5 0) ∷ ‵ (fdies (sliceTy (tyRef (named 4) mut (tyInt w8))) l5) ∷ ‵ (fat fullShare (tyRef (named 3) mut (pointee (R-Watch .written))) l4 0 (vptr b4 o4)) ∷ ‵ (fdies (tyRef (named 3) mut (pointee (R-Watch .written))) l4) ∷ ‵ (froom (sliceTy (tyRef (named 2) mut (pointee (R-MasterWords .written)))) l3 0) ∷ ‵ (fdies (sliceTy (tyRef (named 2) mut (pointee (R-MasterWords .written)))) l3) ∷ ‵ (fat fullShare (tyRef (named 1) mut (pointee (R-Servo .written))) l2 0 (vptr b2 o2)) ∷ ‵ (fdies (tyRef (named 1) mut (pointee (R-Servo .written))) l2) ∷ ‵ (fat fullShare (tyRef (named 0) mut (pointee (R-UnitWords .written))) l1 0 (vptr b1 o1)) ∷ ‵ (fdies (tyRef (named 0) mut (pointee (R-UnitWords .written))) l1) ∷ ‵ (froom tyUnit l0 0) ∷ ‵ (fdies tyUnit l0) ∷ []) (runs C Λ En i-15-34-3 qq)
+      from-15-34-3 : (qq : Kit-Post 𝓤 H) (ee : post 𝓤 H qq returnsᴼ ≡ atReturn 𝓤 H En Post returnsᴼ) (zs-8 : List ℕ) (len-9 : length zs-8 ≡ length h5) (p-4 : SReceived.Received) (w-3 : Val) (e-6 : (p-4 ≡ receivedBy (readOf h5)) × (zs-8 ≡ h5)) (is-7 : Is R-Received p-4 (w-3 ∷ [])) (left1 : Holds (not (p-4 .barred))) (good : Holds (not (not (eqb (length h3) 5)))) (u-24 : Val) (g-25 : Is R-SettingsWords (h1 .settings) (u-24 ∷ [])) (u-28 : Val) (g-29 : Is R-StateWords (h1 .state) (u-28 ∷ [])) (held2 : Holds (p-4 .announces)) (p-31 : ℕ) (w-30 : Val) (e-32 : p-31 ≡ intervalOf ((h1 .settings) .announce)) (is-33 : Is R-u32 p-31 (w-30 ∷ [])) (g-34 : Is R-MasterWords (el 0) (v-MasterWords (el 0))) (p-36 : SLooked.Looked) (w-35 : Val) (e-37 : p-36 ≡ lookedOf (p-4 .message) h6 p-31 (recordIn (el 0))) (is-38 : Is R-Looked p-36 (w-35 ∷ [])) (g-39 : Is R-MasterWords (el 1) (v-MasterWords (el 1))) (p-41 : SLooked.Looked) (w-40 : Val) (e-42 : p-41 ≡ lookedOf (p-4 .message) h6 p-31 (recordIn (el 1))) (is-43 : Is R-Looked p-41 (w-40 ∷ [])) (g-44 : Is R-MasterWords (el 2) (v-MasterWords (el 2))) (p-46 : SLooked.Looked) (w-45 : Val) (e-47 : p-46 ≡ lookedOf (p-4 .message) h6 p-31 (recordIn (el 2))) (is-48 : Is R-Looked p-46 (w-45 ∷ [])) (g-49 : Is R-MasterWords (el 3) (v-MasterWords (el 3))) (p-51 : SLooked.Looked) (w-50 : Val) (e-52 : p-51 ≡ lookedOf (p-4 .message) h6 p-31 (recordIn (el 3))) (is-53 : Is R-Looked p-51 (w-50 ∷ [])) (g-54 : Is R-MasterWords (el 4) (v-MasterWords (el 4))) (p-56 : SLooked.Looked) (w-55 : Val) (e-57 : p-56 ≡ lookedOf (p-4 .message) h6 p-31 (recordIn (el 4))) (is-58 : Is R-Looked p-56 (w-55 ∷ [])) (p-60 : SSeat.Seat) (w-59 : Val) (e-61 : p-60 ≡ seatBy (h1 .settings) (h1 .state) (p-4 .message) h6 (p-36 .standing) (p-41 .standing) (p-46 .standing) (p-51 .standing) (p-56 .standing)) (is-62 : Is R-Seat p-60 (w-59 ∷ [])) (left3 : Holds (not (p-60 .barred))) (g-69 : Is R-MasterWords (el (p-60 .at)) (v-MasterWords (el (p-60 .at)))) (p-71 : SMasterWords.MasterWords) (w-70 : Val) (e-72 : p-71 ≡ placedOf (el (p-60 .at)) (p-4 .message) (p-60 .known) h6) (is-73 : Is R-MasterWords p-71 (w-70 ∷ [])) (p-75 : SHeld.Held) (w-74 : Val) (e-76 : p-75 ≡ heldOf (h1 .state) h6 (bestWith (p-60 .at) (candidateOf h6 p-31 (recordIn p-71)) (p-36 .candidate) (p-41 .candidate) (p-46 .candidate) (p-51 .candidate) (p-56 .candidate))) (is-77 : Is R-Held p-75 (w-74 ∷ [])) (held4 : Holds (p-75 .wipes)) (p-83 : SEmptied.Emptied) (w-82 : Val) (e-84 : p-83 ≡ emptiedOf (h1 .settings)) (is-85 : Is R-Emptied p-83 (w-82 ∷ [])) → Sq W (‵ (fobs γ1 (R-UnitWords .coded .code (with-UnitWords-2 (with-UnitWords-1 h1 (p-75 .state)) (p-83 .halves)))) ∷ ‵ (fbor κ1 (Body (mem R-UnitWords) b1 o1 γ1)) ∷ ‵ (flft κ1 q1) ∷ ‵ (fobs γ8 (R-AnswerWords .coded .code (p-75 .answer))) ∷ ‵ (fbor κ8 (Body (mem R-AnswerWords) b8 o8 γ8)) ∷ ‵ (flft κ8 q8) ∷ ‵ (fobs γ3 (codedHoleys R-MasterWords .code (heres R-MasterWords (set h3 (p-60 .at) p-71)))) ∷ ‵ (fbor κ3 (Held R-MasterWords (length (set h3 (p-60 .at) p-71)) b3 o3 γ3)) ∷ ‵ (flft κ3 q3) ∷ ‵ (MutSlice (named 4) κ5 R-u8 .own (x5 zs-8) ((sliceVal (b5, o5) (length h5)) ∷ [])) ∷ ‵ (flft κ5 q5) ∷ ‵ (flft κ4 q4) ∷ ‵ (flft κ2 q2) ∷ ‵ (ftrue) ∷ ‵ (R-Stamp .own h7 (u7 ∷ [])) ∷ ‵ (R-u64 .own h6 (u6 ∷ [])) ∷ ‵ (fobs γ4 (R-Watch .coded .code h4)) ∷ ‵ (fbor κ4 (Body (mem R-Watch) b4 o4 γ4)) ∷ ‵ (at-slice R-MasterWords (x3 h3) ((sliceVal (b3, o3) (length h3)) ∷ [])) ∷ ‵ (fobs γ2 (R-Servo .coded .code h2)) ∷ ‵ (fbor κ2 (Body (mem R-Servo) b2 o2 γ2)) ∷ ‵ (froom (tyRef erased mut (pointee (R-u8x128 .written))) l65 0) ∷ ‵ (fdies (tyRef erased mut (pointee (R-u8x128 .written))) l65) ∷ ‵ (froom (tyRef erased mut (pointee (R-i32x128 .written))) l64 0) ∷ ‵ (fdies (tyRef erased mut (pointee (R-i32x128 .written))) l64) ∷ ‵ (froom (tyRef erased mut (pointee (R-i64x128 .written))) l63 0) ∷ ‵ (fdies (tyRef erased mut (pointee (R-i64x128 .written))) l63) ∷ ‵ (froom MHead′.mir l62 0) ∷ ‵ (fdies MHead′.mir l62) ∷ ‵ (froom MAnswerWords′.mir l61 0) ∷ ‵ (fdies MAnswerWords′.mir l61) ∷ ‵ (froom MAnswerWords′.mir l60 0) ∷ ‵ (fdies MAnswerWords′.mir l60) ∷ ‵ (froom (tyRef erased mut (pointee (R-u8x128 .written))) l59 0) ∷ ‵ (fdies (tyRef erased mut (pointee (R-u8x128 .written))) l59) ∷ ‵ (froom (tyRef erased mut (pointee (R-i32x128 .written))) l58 0) ∷ ‵ (fdies (tyRef erased mut (pointee (R-i32x128 .written))) l58) ∷ ‵ (froom (tyRef erased mut (pointee (R-i64x128 .written))) l57 0) ∷ ‵ (fdies (tyRef erased mut (pointee (R-i64x128 .written))) l57) ∷ ‵ (froom MHead′.mir l56 0) ∷ ‵ (fdies MHead′.mir l56) ∷ ‵ (froom tyPtr l55 0) ∷ ‵ (fdies tyPtr l55) ∷ ‵ (froom tyPtr l54 0) ∷ ‵ (fdies tyPtr l54) ∷ ‵ (froom (tyInt w64) l53 0) ∷ ‵ (fdies (tyInt w64) l53) ∷ ‵ (froom MAnswerWords′.mir l52 0) ∷ ‵ (fdies MAnswerWords′.mir l52) ∷ ‵ (froom tyBool l51 0) ∷ ‵ (fdies tyBool l51) ∷ ‵ (froom tyPtr l50 0) ∷ ‵ (fdies tyPtr l50) ∷ ‵ (froom tyPtr l49 0) ∷ ‵ (fdies tyPtr l49) ∷ ‵ (froom tyPtr l48 0) ∷ ‵ (fdies tyPtr l48) ∷ ‵ (froom tyPtr l47 0) ∷ ‵ (fdies tyPtr l47) ∷ ‵ (froom MMasterWords′.mir l46 0) ∷ ‵ (fdies MMasterWords′.mir l46) ∷ ‵ (froom tyPtr l45 0) ∷ ‵ (fdies tyPtr l45) ∷ ‵ (froom MAnswerWords′.mir l44 0) ∷ ‵ (fdies MAnswerWords′.mir l44) ∷ ‵ (froom (tyInt w64) l43 0) ∷ ‵ (fdies (tyInt w64) l43) ∷ ‵ (froom MAnswerWords′.mir l42 0) ∷ ‵ (fdies MAnswerWords′.mir l42) ∷ ‵ (froom tyBool l41 0) ∷ ‵ (fdies tyBool l41) ∷ ‵ (froom (sliceTy (tyRef erased mut (tyInt w8))) l40 0) ∷ ‵ (fdies (sliceTy (tyRef erased mut (tyInt w8))) l40) ∷ ‵ (froom (tyRef erased mut (tyInt w8)) l39 0) ∷ ‵ (fdies (tyRef erased mut (tyInt w8)) l39) ∷ ‵ (froom (tyInt w16) l38 0) ∷ ‵ (fdies (tyInt w16) l38) ∷ ‵ (froom (tyInt w8) l37 0) ∷ ‵ (fdies (tyInt w8) l37) ∷ ‵ (froom MServo′.mir l36 0) ∷ ‵ (fdies MServo′.mir l36) ∷ ‵ (froom tyBool l35 0) ∷ ‵ (fdies tyBool l35) ∷ ‵ (froom tyBool l34 0) ∷ ‵ (fdies tyBool l34) ∷ ‵ (froom MAccepted′.mir l33 0) ∷ ‵ (fdies MAccepted′.mir l33) ∷ ‵ (froom MServo′.mir l32 0) ∷ ‵ (fdies MServo′.mir l32) ∷ ‵ (froom tyBool l31 0) ∷ ‵ (fdies tyBool l31) ∷ ‵ (froom MTold′.mir l30 0) ∷ ‵ (fdies MTold′.mir l30) ∷ ‵ (froom MDelaysWords′.mir l29 0) ∷ ‵ (fdies MDelaysWords′.mir l29) ∷ ‵ (froom MHalvesWords′.mir l28 0) ∷ ‵ (fdies MHalvesWords′.mir l28) ∷ ‵ (fat fullShare MEmptied′.mir l27 0 (vstruct (ofList ((parts-Emptied p-83 w-82 is-85) .pu0 ∷ (parts-Emptied p-83 w-82 is-85) .pu1 ∷ (parts-Emptied p-83 w-82 is-85) .pu2 ∷ [])))) ∷ ‵ (fdies MEmptied′.mir l27) ∷ ‵ (froom tyBool l26 0) ∷ ‵ (fdies tyBool l26) ∷ ‵ (froom MHeld′.mir l25 0) ∷ ‵ (fdies MHeld′.mir l25) ∷ ‵ (froom MMasterWords′.mir l24 0) ∷ ‵ (fdies MMasterWords′.mir l24) ∷ ‵ (froom (tyInt w64) l23 0) ∷ ‵ (fdies (tyInt w64) l23) ∷ ‵ (froom tyBool l22 0) ∷ ‵ (fdies tyBool l22) ∷ ‵ (froom MSeat′.mir l21 0) ∷ ‵ (fdies MSeat′.mir l21) ∷ ‵ (froom MLooked′.mir l20 0) ∷ ‵ (fdies MLooked′.mir l20) ∷ ‵ (froom MLooked′.mir l19 0) ∷ ‵ (fdies MLooked′.mir l19) ∷ ‵ (froom MLooked′.mir l18 0) ∷ ‵ (fdies MLooked′.mir l18) ∷ ‵ (froom MLooked′.mir l17 0) ∷ ‵ (fdies MLooked′.mir l17) ∷ ‵ (froom MLooked′.mir l16 0) ∷ ‵ (fdies MLooked′.mir l16) ∷ ‵ (froom (tyInt w32) l15 0) ∷ ‵ (fdies (tyInt w32) l15) ∷ ‵ (froom tyBool l14 0) ∷ ‵ (fdies tyBool l14) ∷ ‵ (froom MStateWords′.mir l13 0) ∷ ‵ (fdies MStateWords′.mir l13) ∷ ‵ (froom MSettingsWords′.mir l12 0) ∷ ‵ (fdies MSettingsWords′.mir l12) ∷ ‵ (froom MMessage′.mir l11 0) ∷ ‵ (fdies MMessage′.mir l11) ∷ ‵ (froom tyBool l10 0) ∷ ‵ (fdies tyBool l10) ∷ ‵ (froom MReceived′.mir l9 0) ∷ ‵ (fdies MReceived′.mir l9) ∷ ‵ (froom (tyRef (named 5) mut (pointee (R-AnswerWords .written))) l8 0) ∷ ‵ (fdies (tyRef (named 5) mut (pointee (R-AnswerWords .written))) l8) ∷ ‵ (froom MStamp′.mir l7 0) ∷ ‵ (fdies MStamp′.mir l7) ∷ ‵ (froom (tyInt w64) l6 0) ∷ ‵ (fdies (tyInt w64) l6) ∷ ‵ (froom (sliceTy (tyRef (named 4) mut (tyInt w8))) l5 0) ∷ ‵ (fdies (sliceTy (tyRef (named 4) mut (tyInt w8))) l5) ∷ ‵ (fat fullShare (tyRef (named 3) mut (pointee (R-Watch .written))) l4 0 (vptr b4 o4)) ∷ ‵ (fdies (tyRef (named 3) mut (pointee (R-Watch .written))) l4) ∷ ‵ (froom (sliceTy (tyRef (named 2) mut (pointee (R-MasterWords .written)))) l3 0) ∷ ‵ (fdies (sliceTy (tyRef (named 2) mut (pointee (R-MasterWords .written)))) l3) ∷ ‵ (fat fullShare (tyRef (named 1) mut (pointee (R-Servo .written))) l2 0 (vptr b2 o2)) ∷ ‵ (fdies (tyRef (named 1) mut (pointee (R-Servo .written))) l2) ∷ ‵ (fat fullShare (tyRef (named 0) mut (pointee (R-UnitWords .written))) l1 0 (vptr b1 o1)) ∷ ‵ (fdies (tyRef (named 0) mut (pointee (R-UnitWords .written))) l1) ∷ ‵ (froom tyUnit l0 0) ∷ ‵ (fdies tyUnit l0) ∷ []) (runs C Λ En i-15-34-3 qq)
       from-15-34-3 qq ee zs-8 len-9 p-4 w-3 e-6 is-7 left1 good u-24 g-25 u-28 g-29 held2 p-31 w-30 e-32 is-33 g-34 p-36 w-35 e-37 is-38 g-39 p-41 w-40 e-42 is-43 g-44 p-46 w-45 e-47 is-48 g-49 p-51 w-50 e-52 is-53 g-54 p-56 w-55 e-57 is-58 p-60 w-59 e-61 is-62 left3 g-69 p-71 w-70 e-72 is-73 p-75 w-74 e-76 is-77 held4 p-83 w-82 e-84 is-85 =
           opens ! tt R-UnitWords {h = (with-UnitWords-2 (with-UnitWords-1 h1 (p-75 .state)) (p-83 .halves))} b1 o1 (λ vs-88.
           move ! (1 ∷ []) $
@@ -2162,20 +2162,20 @@ module _ {M : Type 1} (𝓤 : URA M) (H : Heap 𝓤) (A : Atoms 𝓤) (W : Given
           move ! (1 ∷ []) $
           use1 W (‵ (fat fullShare MUnitWords′.mir b1 o1 (only vs-88))) (W .laws .raw-at fullShare MUnitWords′.mir b1 o1 (only vs-88)) $
           rewrite ! 0 (λ (u : Val). ‵ (fat fullShare MUnitWords′.mir b1 o1 u)) ((parts-UnitWords (with-UnitWords-2 (with-UnitWords-1 h1 (p-75 .state)) (p-83 .halves)) (only vs-88) (one-UnitWords (with-UnitWords-2 (with-UnitWords-1 h1 (p-75 .state)) (p-83 .halves)) vs-88 g-89)) .whole-is) refl $
-          assigns ! (of-opd ! (load ! (from ! (fld ! {τ = MDelaysWords′.mir} {d = off-Emptied-1} field-Emptied-1 (stop !))) (look-in ! 91 (sub ! {ν = name-of MEmptied′.mir} {τs = tys-of MEmptied′.mir} 1 {τ = MDelaysWords′.mir} {d = off-Emptied-1} field-Emptied-1 (whole !))))) (from ! (hop ! (look ! 143 refl) (fld ! {τ = MDelaysWords′.mir} {d = off-UnitWords-3} field-UnitWords-3 (stop !)))) (store-in ! 0 (sub ! {ν = name-of MUnitWords′.mir} {τs = tys-of MUnitWords′.mir} 3 {τ = MDelaysWords′.mir} {d = off-UnitWords-3} field-UnitWords-3 (whole !)) (lawful-DelaysWords 𝓤 H A W .typed (p-83 .delays) _ ((parts-Emptied p-83 w-82 is-85) .pg1) .0)) $
+          assigns ! (of-opd ! (load ! (from ! (fld ! {τ = MDelaysWords′.mir} {d = off-Emptied-1} field-Emptied-1 (stop !))) (look-in ! 99 (sub ! {ν = name-of MEmptied′.mir} {τs = tys-of MEmptied′.mir} 1 {τ = MDelaysWords′.mir} {d = off-Emptied-1} field-Emptied-1 (whole !))))) (from ! (hop ! (look ! 151 refl) (fld ! {τ = MDelaysWords′.mir} {d = off-UnitWords-3} field-UnitWords-3 (stop !)))) (store-in ! 0 (sub ! {ν = name-of MUnitWords′.mir} {τs = tys-of MUnitWords′.mir} 3 {τ = MDelaysWords′.mir} {d = off-UnitWords-3} field-UnitWords-3 (whole !)) (lawful-DelaysWords 𝓤 H A W .typed (p-83 .delays) _ ((parts-Emptied p-83 w-82 is-85) .pg1) .0)) $
           use1 W (‵ (cellAt fullShare (R-UnitWords .mir) ((vstruct (ofList (((parts-UnitWords (with-UnitWords-2 (with-UnitWords-1 h1 (p-75 .state)) (p-83 .halves)) (only vs-88) (one-UnitWords (with-UnitWords-2 (with-UnitWords-1 h1 (p-75 .state)) (p-83 .halves)) vs-88 g-89)) .pu0) ∷ ((parts-UnitWords (with-UnitWords-2 (with-UnitWords-1 h1 (p-75 .state)) (p-83 .halves)) (only vs-88) (one-UnitWords (with-UnitWords-2 (with-UnitWords-1 h1 (p-75 .state)) (p-83 .halves)) vs-88 g-89)) .pu1) ∷ ((parts-UnitWords (with-UnitWords-2 (with-UnitWords-1 h1 (p-75 .state)) (p-83 .halves)) (only vs-88) (one-UnitWords (with-UnitWords-2 (with-UnitWords-1 h1 (p-75 .state)) (p-83 .halves)) vs-88 g-89)) .pu2) ∷ ((parts-Emptied p-83 w-82 is-85) .pu1) ∷ []))) ∷ []) b1 o1)) (W .laws .at-raw fullShare MUnitWords′.mir b1 o1 (vstruct (ofList (((parts-UnitWords (with-UnitWords-2 (with-UnitWords-1 h1 (p-75 .state)) (p-83 .halves)) (only vs-88) (one-UnitWords (with-UnitWords-2 (with-UnitWords-1 h1 (p-75 .state)) (p-83 .halves)) vs-88 g-89)) .pu0) ∷ ((parts-UnitWords (with-UnitWords-2 (with-UnitWords-1 h1 (p-75 .state)) (p-83 .halves)) (only vs-88) (one-UnitWords (with-UnitWords-2 (with-UnitWords-1 h1 (p-75 .state)) (p-83 .halves)) vs-88 g-89)) .pu1) ∷ ((parts-UnitWords (with-UnitWords-2 (with-UnitWords-1 h1 (p-75 .state)) (p-83 .halves)) (only vs-88) (one-UnitWords (with-UnitWords-2 (with-UnitWords-1 h1 (p-75 .state)) (p-83 .halves)) vs-88 g-89)) .pu2) ∷ ((parts-Emptied p-83 w-82 is-85) .pu1) ∷ [])))) $
           move ! (1 ∷ []) $
           drop ! $
           owned ! R-UnitWords (Is R-UnitWords) (makes-UnitWords 𝓤 H A W) (with-UnitWords-3 (with-UnitWords-2 (with-UnitWords-1 h1 (p-75 .state)) (p-83 .halves)) (p-83 .delays)) _ (shape-UnitWords (with-UnitWords-3 (with-UnitWords-2 (with-UnitWords-1 h1 (p-75 .state)) (p-83 .halves)) (p-83 .delays)) ((parts-UnitWords (with-UnitWords-2 (with-UnitWords-1 h1 (p-75 .state)) (p-83 .halves)) (only vs-88) (one-UnitWords (with-UnitWords-2 (with-UnitWords-1 h1 (p-75 .state)) (p-83 .halves)) vs-88 g-89)) .pu0) ((parts-UnitWords (with-UnitWords-2 (with-UnitWords-1 h1 (p-75 .state)) (p-83 .halves)) (only vs-88) (one-UnitWords (with-UnitWords-2 (with-UnitWords-1 h1 (p-75 .state)) (p-83 .halves)) vs-88 g-89)) .pu1) ((parts-UnitWords (with-UnitWords-2 (with-UnitWords-1 h1 (p-75 .state)) (p-83 .halves)) (only vs-88) (one-UnitWords (with-UnitWords-2 (with-UnitWords-1 h1 (p-75 .state)) (p-83 .halves)) vs-88 g-89)) .pu2) ((parts-Emptied p-83 w-82 is-85) .pu1) ((parts-UnitWords (with-UnitWords-2 (with-UnitWords-1 h1 (p-75 .state)) (p-83 .halves)) (only vs-88) (one-UnitWords (with-UnitWords-2 (with-UnitWords-1 h1 (p-75 .state)) (p-83 .halves)) vs-88 g-89)) .pg0) ((parts-UnitWords (with-UnitWords-2 (with-UnitWords-1 h1 (p-75 .state)) (p-83 .halves)) (only vs-88) (one-UnitWords (with-UnitWords-2 (with-UnitWords-1 h1 (p-75 .state)) (p-83 .halves)) vs-88 g-89)) .pg1) ((parts-UnitWords (with-UnitWords-2 (with-UnitWords-1 h1 (p-75 .state)) (p-83 .halves)) (only vs-88) (one-UnitWords (with-UnitWords-2 (with-UnitWords-1 h1 (p-75 .state)) (p-83 .halves)) vs-88 g-89)) .pg2) ((parts-Emptied p-83 w-82 is-85) .pg1)) $
           move ! (1 ∷ 0 ∷ 2 ∷ 3 ∷ 4 ∷ []) $
           closes ! tt R-UnitWords (with-UnitWords-3 (with-UnitWords-2 (with-UnitWords-1 h1 (p-75 .state)) (p-83 .halves)) (p-83 .delays)) ((vstruct (ofList (((parts-UnitWords (with-UnitWords-2 (with-UnitWords-1 h1 (p-75 .state)) (p-83 .halves)) (only vs-88) (one-UnitWords (with-UnitWords-2 (with-UnitWords-1 h1 (p-75 .state)) (p-83 .halves)) vs-88 g-89)) .pu0) ∷ ((parts-UnitWords (with-UnitWords-2 (with-UnitWords-1 h1 (p-75 .state)) (p-83 .halves)) (only vs-88) (one-UnitWords (with-UnitWords-2 (with-UnitWords-1 h1 (p-75 .state)) (p-83 .halves)) vs-88 g-89)) .pu1) ∷ ((parts-UnitWords (with-UnitWords-2 (with-UnitWords-1 h1 (p-75 .state)) (p-83 .halves)) (only vs-88) (one-UnitWords (with-UnitWords-2 (with-UnitWords-1 h1 (p-75 .state)) (p-83 .halves)) vs-88 g-89)) .pu2) ∷ ((parts-Emptied p-83 w-82 is-85) .pu1) ∷ []))) ∷ []) b1 o1 $
-          forget ! 141 refl $
+          forget ! 149 refl $
           from-15-34-4 qq ee zs-8 len-9 p-4 w-3 e-6 is-7 left1 good u-24 g-25 u-28 g-29 held2 p-31 w-30 e-32 is-33 g-34 p-36 w-35 e-37 is-38 g-39 p-41 w-40 e-42 is-43 g-44 p-46 w-45 e-47 is-48 g-49 p-51 w-50 e-52 is-53 g-54 p-56 w-55 e-57 is-58 p-60 w-59 e-61 is-62 left3 g-69 p-71 w-70 e-72 is-73 p-75 w-74 e-76 is-77 held4 p-83 w-82 e-84 is-85))
 
-      from-15-34-1 : (qq : Kit-Post 𝓤 H) (ee : post 𝓤 H qq returnsᴼ ≡ atReturn 𝓤 H En Post returnsᴼ) (zs-8 : List ℕ) (len-9 : length zs-8 ≡ length h5) (p-4 : SReceived.Received) (w-3 : Val) (e-6 : (p-4 ≡ receivedBy (readOf h5)) × (zs-8 ≡ h5)) (is-7 : Is R-Received p-4 (w-3 ∷ [])) (left1 : Holds (not (p-4 .barred))) (good : Holds (not (not (eqb (length h3) 5)))) (u-24 : Val) (g-25 : Is R-SettingsWords (h1 .settings) (u-24 ∷ [])) (u-28 : Val) (g-29 : Is R-StateWords (h1 .state) (u-28 ∷ [])) (held2 : Holds (p-4 .announces)) (p-31 : ℕ) (w-30 : Val) (e-32 : p-31 ≡ intervalOf ((h1 .settings) .announce)) (is-33 : Is R-u32 p-31 (w-30 ∷ [])) (g-34 : Is R-MasterWords (el 0) (v-MasterWords (el 0))) (p-36 : SLooked.Looked) (w-35 : Val) (e-37 : p-36 ≡ lookedOf (p-4 .message) h6 p-31 (recordIn (el 0))) (is-38 : Is R-Looked p-36 (w-35 ∷ [])) (g-39 : Is R-MasterWords (el 1) (v-MasterWords (el 1))) (p-41 : SLooked.Looked) (w-40 : Val) (e-42 : p-41 ≡ lookedOf (p-4 .message) h6 p-31 (recordIn (el 1))) (is-43 : Is R-Looked p-41 (w-40 ∷ [])) (g-44 : Is R-MasterWords (el 2) (v-MasterWords (el 2))) (p-46 : SLooked.Looked) (w-45 : Val) (e-47 : p-46 ≡ lookedOf (p-4 .message) h6 p-31 (recordIn (el 2))) (is-48 : Is R-Looked p-46 (w-45 ∷ [])) (g-49 : Is R-MasterWords (el 3) (v-MasterWords (el 3))) (p-51 : SLooked.Looked) (w-50 : Val) (e-52 : p-51 ≡ lookedOf (p-4 .message) h6 p-31 (recordIn (el 3))) (is-53 : Is R-Looked p-51 (w-50 ∷ [])) (g-54 : Is R-MasterWords (el 4) (v-MasterWords (el 4))) (p-56 : SLooked.Looked) (w-55 : Val) (e-57 : p-56 ≡ lookedOf (p-4 .message) h6 p-31 (recordIn (el 4))) (is-58 : Is R-Looked p-56 (w-55 ∷ [])) (p-60 : SSeat.Seat) (w-59 : Val) (e-61 : p-60 ≡ seatBy (h1 .settings) (h1 .state) (p-4 .message) h6 (p-36 .standing) (p-41 .standing) (p-46 .standing) (p-51 .standing) (p-56 .standing)) (is-62 : Is R-Seat p-60 (w-59 ∷ [])) (left3 : Holds (not (p-60 .barred))) (g-69 : Is R-MasterWords (el (p-60 .at)) (v-MasterWords (el (p-60 .at)))) (p-71 : SMasterWords.MasterWords) (w-70 : Val) (e-72 : p-71 ≡ placedOf (el (p-60 .at)) (p-4 .message) (p-60 .known) h6) (is-73 : Is R-MasterWords p-71 (w-70 ∷ [])) (p-75 : SHeld.Held) (w-74 : Val) (e-76 : p-75 ≡ heldOf (h1 .state) h6 (bestWith (p-60 .at) (candidateOf h6 p-31 (recordIn p-71)) (p-36 .candidate) (p-41 .candidate) (p-46 .candidate) (p-51 .candidate) (p-56 .candidate))) (is-77 : Is R-Held p-75 (w-74 ∷ [])) (held4 : Holds (p-75 .wipes)) → Sq W (‵ (fobs γ1 (R-UnitWords .coded .code (with-UnitWords-1 h1 (p-75 .state)))) ∷ ‵ (fbor κ1 (Body (mem R-UnitWords) b1 o1 γ1)) ∷ ‵ (flft κ1 q1) ∷ ‵ (fobs γ8 (R-AnswerWords .coded .code (p-75 .answer))) ∷ ‵ (fbor κ8 (Body (mem R-AnswerWords) b8 o8 γ8)) ∷ ‵ (flft κ8 q8) ∷ ‵ (fobs γ3 (codedHoleys R-MasterWords .code (heres R-MasterWords (set h3 (p-60 .at) p-71)))) ∷ ‵ (fbor κ3 (Held R-MasterWords (length (set h3 (p-60 .at) p-71)) b3 o3 γ3)) ∷ ‵ (flft κ3 q3) ∷ ‵ (MutSlice (named 4) κ5 R-u8 .own (x5 zs-8) ((sliceVal (b5, o5) (length h5)) ∷ [])) ∷ ‵ (flft κ5 q5) ∷ ‵ (flft κ4 q4) ∷ ‵ (flft κ2 q2) ∷ ‵ (ftrue) ∷ ‵ (R-Stamp .own h7 (u7 ∷ [])) ∷ ‵ (R-u64 .own h6 (u6 ∷ [])) ∷ ‵ (fobs γ4 (R-Watch .coded .code h4)) ∷ ‵ (fbor κ4 (Body (mem R-Watch) b4 o4 γ4)) ∷ ‵ (at-slice R-MasterWords (x3 h3) ((sliceVal (b3, o3) (length h3)) ∷ [])) ∷ ‵ (fobs γ2 (R-Servo .coded .code h2)) ∷ ‵ (fbor κ2 (Body (mem R-Servo) b2 o2 γ2)) ∷ ‵ (froom (tyRef erased mut (pointee (R-u8x128 .written))) l61 0) ∷ ‵ (fdies (tyRef erased mut (pointee (R-u8x128 .written))) l61) ∷ ‵ (froom (tyRef erased mut (pointee (R-i32x128 .written))) l60 0) ∷ ‵ (fdies (tyRef erased mut (pointee (R-i32x128 .written))) l60) ∷ ‵ (froom (tyRef erased mut (pointee (R-i64x128 .written))) l59 0) ∷ ‵ (fdies (tyRef erased mut (pointee (R-i64x128 .written))) l59) ∷ ‵ (froom MHead′.mir l58 0) ∷ ‵ (fdies MHead′.mir l58) ∷ ‵ (froom MAnswerWords′.mir l57 0) ∷ ‵ (fdies MAnswerWords′.mir l57) ∷ ‵ (froom MAnswerWords′.mir l56 0) ∷ ‵ (fdies MAnswerWords′.mir l56) ∷ ‵ (froom (tyRef erased mut (pointee (R-u8x128 .written))) l55 0) ∷ ‵ (fdies (tyRef erased mut (pointee (R-u8x128 .written))) l55) ∷ ‵ (froom (tyRef erased mut (pointee (R-i32x128 .written))) l54 0) ∷ ‵ (fdies (tyRef erased mut (pointee (R-i32x128 .written))) l54) ∷ ‵ (froom (tyRef erased mut (pointee (R-i64x128 .written))) l53 0) ∷ ‵ (fdies (tyRef erased mut (pointee (R-i64x128 .written))) l53) ∷ ‵ (froom MHead′.mir l52 0) ∷ ‵ (fdies MHead′.mir l52) ∷ ‵ (froom tyPtr l51 0) ∷ ‵ (fdies tyPtr l51) ∷ ‵ (froom tyPtr l50 0) ∷ ‵ (fdies tyPtr l50) ∷ ‵ (froom (tyInt w64) l49 0) ∷ ‵ (fdies (tyInt w64) l49) ∷ ‵ (froom MAnswerWords′.mir l48 0) ∷ ‵ (fdies MAnswerWords′.mir l48) ∷ ‵ (froom tyBool l47 0) ∷ ‵ (fdies tyBool l47) ∷ ‵ (froom tyPtr l46 0) ∷ ‵ (fdies tyPtr l46) ∷ ‵ (froom tyPtr l45 0) ∷ ‵ (fdies tyPtr l45) ∷ ‵ (froom tyPtr l44 0) ∷ ‵ (fdies tyPtr l44) ∷ ‵ (froom tyPtr l43 0) ∷ ‵ (fdies tyPtr l43) ∷ ‵ (froom MMasterWords′.mir l42 0) ∷ ‵ (fdies MMasterWords′.mir l42) ∷ ‵ (froom tyPtr l41 0) ∷ ‵ (fdies tyPtr l41) ∷ ‵ (froom MAnswerWords′.mir l40 0) ∷ ‵ (fdies MAnswerWords′.mir l40) ∷ ‵ (froom (tyInt w64) l39 0) ∷ ‵ (fdies (tyInt w64) l39) ∷ ‵ (froom MAnswerWords′.mir l38 0) ∷ ‵ (fdies MAnswerWords′.mir l38) ∷ ‵ (froom tyBool l37 0) ∷ ‵ (fdies tyBool l37) ∷ ‵ (froom (sliceTy (tyRef erased mut (tyInt w8))) l36 0) ∷ ‵ (fdies (sliceTy (tyRef erased mut (tyInt w8))) l36) ∷ ‵ (froom (tyRef erased mut (tyInt w8)) l35 0) ∷ ‵ (fdies (tyRef erased mut (tyInt w8)) l35) ∷ ‵ (froom tyBool l34 0) ∷ ‵ (fdies tyBool l34) ∷ ‵ (froom MServo′.mir l33 0) ∷ ‵ (fdies MServo′.mir l33) ∷ ‵ (froom MServo′.mir l32 0) ∷ ‵ (fdies MServo′.mir l32) ∷ ‵ (froom tyBool l31 0) ∷ ‵ (fdies tyBool l31) ∷ ‵ (froom MTold′.mir l30 0) ∷ ‵ (fdies MTold′.mir l30) ∷ ‵ (froom MDelaysWords′.mir l29 0) ∷ ‵ (fdies MDelaysWords′.mir l29) ∷ ‵ (froom MHalvesWords′.mir l28 0) ∷ ‵ (fdies MHalvesWords′.mir l28) ∷ ‵ (froom MEmptied′.mir l27 0) ∷ ‵ (fdies MEmptied′.mir l27) ∷ ‵ (froom tyBool l26 0) ∷ ‵ (fdies tyBool l26) ∷ ‵ (froom MHeld′.mir l25 0) ∷ ‵ (fdies MHeld′.mir l25) ∷ ‵ (froom MMasterWords′.mir l24 0) ∷ ‵ (fdies MMasterWords′.mir l24) ∷ ‵ (froom (tyInt w64) l23 0) ∷ ‵ (fdies (tyInt w64) l23) ∷ ‵ (froom tyBool l22 0) ∷ ‵ (fdies tyBool l22) ∷ ‵ (froom MSeat′.mir l21 0) ∷ ‵ (fdies MSeat′.mir l21) ∷ ‵ (froom MLooked′.mir l20 0) ∷ ‵ (fdies MLooked′.mir l20) ∷ ‵ (froom MLooked′.mir l19 0) ∷ ‵ (fdies MLooked′.mir l19) ∷ ‵ (froom MLooked′.mir l18 0) ∷ ‵ (fdies MLooked′.mir l18) ∷ ‵ (froom MLooked′.mir l17 0) ∷ ‵ (fdies MLooked′.mir l17) ∷ ‵ (froom MLooked′.mir l16 0) ∷ ‵ (fdies MLooked′.mir l16) ∷ ‵ (froom (tyInt w32) l15 0) ∷ ‵ (fdies (tyInt w32) l15) ∷ ‵ (froom tyBool l14 0) ∷ ‵ (fdies tyBool l14) ∷ ‵ (froom MStateWords′.mir l13 0) ∷ ‵ (fdies MStateWords′.mir l13) ∷ ‵ (fat fullShare MSettingsWords′.mir l12 0 u-24) ∷ ‵ (fdies MSettingsWords′.mir l12) ∷ ‵ (froom MMessage′.mir l11 0) ∷ ‵ (fdies MMessage′.mir l11) ∷ ‵ (froom tyBool l10 0) ∷ ‵ (fdies tyBool l10) ∷ ‵ (froom MReceived′.mir l9 0) ∷ ‵ (fdies MReceived′.mir l9) ∷ ‵ (froom (tyRef (named 5) mut (pointee (R-AnswerWords .written))) l8 0) ∷ ‵ (fdies (tyRef (named 5) mut (pointee (R-AnswerWords .written))) l8) ∷ ‵ (froom MStamp′.mir l7 0) ∷ ‵ (fdies MStamp′.mir l7) ∷ ‵ (froom (tyInt w64) l6 0) ∷ ‵ (fdies (tyInt w64) l6) ∷ ‵ (froom (sliceTy (tyRef (named 4) mut (tyInt w8))) l5 0) ∷ ‵ (fdies (sliceTy (tyRef (named 4) mut (tyInt w8))) l5) ∷ ‵ (fat fullShare (tyRef (named 3) mut (pointee (R-Watch .written))) l4 0 (vptr b4 o4)) ∷ ‵ (fdies (tyRef (named 3) mut (pointee (R-Watch .written))) l4) ∷ ‵ (froom (sliceTy (tyRef (named 2) mut (pointee (R-MasterWords .written)))) l3 0) ∷ ‵ (fdies (sliceTy (tyRef (named 2) mut (pointee (R-MasterWords .written)))) l3) ∷ ‵ (fat fullShare (tyRef (named 1) mut (pointee (R-Servo .written))) l2 0 (vptr b2 o2)) ∷ ‵ (fdies (tyRef (named 1) mut (pointee (R-Servo .written))) l2) ∷ ‵ (fat fullShare (tyRef (named 0) mut (pointee (R-UnitWords .written))) l1 0 (vptr b1 o1)) ∷ ‵ (fdies (tyRef (named 0) mut (pointee (R-UnitWords .written))) l1) ∷ ‵ (froom tyUnit l0 0) ∷ ‵ (fdies tyUnit l0) ∷ []) (runs C Λ En i-15-34-1 qq)
+      from-15-34-1 : (qq : Kit-Post 𝓤 H) (ee : post 𝓤 H qq returnsᴼ ≡ atReturn 𝓤 H En Post returnsᴼ) (zs-8 : List ℕ) (len-9 : length zs-8 ≡ length h5) (p-4 : SReceived.Received) (w-3 : Val) (e-6 : (p-4 ≡ receivedBy (readOf h5)) × (zs-8 ≡ h5)) (is-7 : Is R-Received p-4 (w-3 ∷ [])) (left1 : Holds (not (p-4 .barred))) (good : Holds (not (not (eqb (length h3) 5)))) (u-24 : Val) (g-25 : Is R-SettingsWords (h1 .settings) (u-24 ∷ [])) (u-28 : Val) (g-29 : Is R-StateWords (h1 .state) (u-28 ∷ [])) (held2 : Holds (p-4 .announces)) (p-31 : ℕ) (w-30 : Val) (e-32 : p-31 ≡ intervalOf ((h1 .settings) .announce)) (is-33 : Is R-u32 p-31 (w-30 ∷ [])) (g-34 : Is R-MasterWords (el 0) (v-MasterWords (el 0))) (p-36 : SLooked.Looked) (w-35 : Val) (e-37 : p-36 ≡ lookedOf (p-4 .message) h6 p-31 (recordIn (el 0))) (is-38 : Is R-Looked p-36 (w-35 ∷ [])) (g-39 : Is R-MasterWords (el 1) (v-MasterWords (el 1))) (p-41 : SLooked.Looked) (w-40 : Val) (e-42 : p-41 ≡ lookedOf (p-4 .message) h6 p-31 (recordIn (el 1))) (is-43 : Is R-Looked p-41 (w-40 ∷ [])) (g-44 : Is R-MasterWords (el 2) (v-MasterWords (el 2))) (p-46 : SLooked.Looked) (w-45 : Val) (e-47 : p-46 ≡ lookedOf (p-4 .message) h6 p-31 (recordIn (el 2))) (is-48 : Is R-Looked p-46 (w-45 ∷ [])) (g-49 : Is R-MasterWords (el 3) (v-MasterWords (el 3))) (p-51 : SLooked.Looked) (w-50 : Val) (e-52 : p-51 ≡ lookedOf (p-4 .message) h6 p-31 (recordIn (el 3))) (is-53 : Is R-Looked p-51 (w-50 ∷ [])) (g-54 : Is R-MasterWords (el 4) (v-MasterWords (el 4))) (p-56 : SLooked.Looked) (w-55 : Val) (e-57 : p-56 ≡ lookedOf (p-4 .message) h6 p-31 (recordIn (el 4))) (is-58 : Is R-Looked p-56 (w-55 ∷ [])) (p-60 : SSeat.Seat) (w-59 : Val) (e-61 : p-60 ≡ seatBy (h1 .settings) (h1 .state) (p-4 .message) h6 (p-36 .standing) (p-41 .standing) (p-46 .standing) (p-51 .standing) (p-56 .standing)) (is-62 : Is R-Seat p-60 (w-59 ∷ [])) (left3 : Holds (not (p-60 .barred))) (g-69 : Is R-MasterWords (el (p-60 .at)) (v-MasterWords (el (p-60 .at)))) (p-71 : SMasterWords.MasterWords) (w-70 : Val) (e-72 : p-71 ≡ placedOf (el (p-60 .at)) (p-4 .message) (p-60 .known) h6) (is-73 : Is R-MasterWords p-71 (w-70 ∷ [])) (p-75 : SHeld.Held) (w-74 : Val) (e-76 : p-75 ≡ heldOf (h1 .state) h6 (bestWith (p-60 .at) (candidateOf h6 p-31 (recordIn p-71)) (p-36 .candidate) (p-41 .candidate) (p-46 .candidate) (p-51 .candidate) (p-56 .candidate))) (is-77 : Is R-Held p-75 (w-74 ∷ [])) (held4 : Holds (p-75 .wipes)) → Sq W (‵ (fobs γ1 (R-UnitWords .coded .code (with-UnitWords-1 h1 (p-75 .state)))) ∷ ‵ (fbor κ1 (Body (mem R-UnitWords) b1 o1 γ1)) ∷ ‵ (flft κ1 q1) ∷ ‵ (fobs γ8 (R-AnswerWords .coded .code (p-75 .answer))) ∷ ‵ (fbor κ8 (Body (mem R-AnswerWords) b8 o8 γ8)) ∷ ‵ (flft κ8 q8) ∷ ‵ (fobs γ3 (codedHoleys R-MasterWords .code (heres R-MasterWords (set h3 (p-60 .at) p-71)))) ∷ ‵ (fbor κ3 (Held R-MasterWords (length (set h3 (p-60 .at) p-71)) b3 o3 γ3)) ∷ ‵ (flft κ3 q3) ∷ ‵ (MutSlice (named 4) κ5 R-u8 .own (x5 zs-8) ((sliceVal (b5, o5) (length h5)) ∷ [])) ∷ ‵ (flft κ5 q5) ∷ ‵ (flft κ4 q4) ∷ ‵ (flft κ2 q2) ∷ ‵ (ftrue) ∷ ‵ (R-Stamp .own h7 (u7 ∷ [])) ∷ ‵ (R-u64 .own h6 (u6 ∷ [])) ∷ ‵ (fobs γ4 (R-Watch .coded .code h4)) ∷ ‵ (fbor κ4 (Body (mem R-Watch) b4 o4 γ4)) ∷ ‵ (at-slice R-MasterWords (x3 h3) ((sliceVal (b3, o3) (length h3)) ∷ [])) ∷ ‵ (fobs γ2 (R-Servo .coded .code h2)) ∷ ‵ (fbor κ2 (Body (mem R-Servo) b2 o2 γ2)) ∷ ‵ (froom (tyRef erased mut (pointee (R-u8x128 .written))) l65 0) ∷ ‵ (fdies (tyRef erased mut (pointee (R-u8x128 .written))) l65) ∷ ‵ (froom (tyRef erased mut (pointee (R-i32x128 .written))) l64 0) ∷ ‵ (fdies (tyRef erased mut (pointee (R-i32x128 .written))) l64) ∷ ‵ (froom (tyRef erased mut (pointee (R-i64x128 .written))) l63 0) ∷ ‵ (fdies (tyRef erased mut (pointee (R-i64x128 .written))) l63) ∷ ‵ (froom MHead′.mir l62 0) ∷ ‵ (fdies MHead′.mir l62) ∷ ‵ (froom MAnswerWords′.mir l61 0) ∷ ‵ (fdies MAnswerWords′.mir l61) ∷ ‵ (froom MAnswerWords′.mir l60 0) ∷ ‵ (fdies MAnswerWords′.mir l60) ∷ ‵ (froom (tyRef erased mut (pointee (R-u8x128 .written))) l59 0) ∷ ‵ (fdies (tyRef erased mut (pointee (R-u8x128 .written))) l59) ∷ ‵ (froom (tyRef erased mut (pointee (R-i32x128 .written))) l58 0) ∷ ‵ (fdies (tyRef erased mut (pointee (R-i32x128 .written))) l58) ∷ ‵ (froom (tyRef erased mut (pointee (R-i64x128 .written))) l57 0) ∷ ‵ (fdies (tyRef erased mut (pointee (R-i64x128 .written))) l57) ∷ ‵ (froom MHead′.mir l56 0) ∷ ‵ (fdies MHead′.mir l56) ∷ ‵ (froom tyPtr l55 0) ∷ ‵ (fdies tyPtr l55) ∷ ‵ (froom tyPtr l54 0) ∷ ‵ (fdies tyPtr l54) ∷ ‵ (froom (tyInt w64) l53 0) ∷ ‵ (fdies (tyInt w64) l53) ∷ ‵ (froom MAnswerWords′.mir l52 0) ∷ ‵ (fdies MAnswerWords′.mir l52) ∷ ‵ (froom tyBool l51 0) ∷ ‵ (fdies tyBool l51) ∷ ‵ (froom tyPtr l50 0) ∷ ‵ (fdies tyPtr l50) ∷ ‵ (froom tyPtr l49 0) ∷ ‵ (fdies tyPtr l49) ∷ ‵ (froom tyPtr l48 0) ∷ ‵ (fdies tyPtr l48) ∷ ‵ (froom tyPtr l47 0) ∷ ‵ (fdies tyPtr l47) ∷ ‵ (froom MMasterWords′.mir l46 0) ∷ ‵ (fdies MMasterWords′.mir l46) ∷ ‵ (froom tyPtr l45 0) ∷ ‵ (fdies tyPtr l45) ∷ ‵ (froom MAnswerWords′.mir l44 0) ∷ ‵ (fdies MAnswerWords′.mir l44) ∷ ‵ (froom (tyInt w64) l43 0) ∷ ‵ (fdies (tyInt w64) l43) ∷ ‵ (froom MAnswerWords′.mir l42 0) ∷ ‵ (fdies MAnswerWords′.mir l42) ∷ ‵ (froom tyBool l41 0) ∷ ‵ (fdies tyBool l41) ∷ ‵ (froom (sliceTy (tyRef erased mut (tyInt w8))) l40 0) ∷ ‵ (fdies (sliceTy (tyRef erased mut (tyInt w8))) l40) ∷ ‵ (froom (tyRef erased mut (tyInt w8)) l39 0) ∷ ‵ (fdies (tyRef erased mut (tyInt w8)) l39) ∷ ‵ (froom (tyInt w16) l38 0) ∷ ‵ (fdies (tyInt w16) l38) ∷ ‵ (froom (tyInt w8) l37 0) ∷ ‵ (fdies (tyInt w8) l37) ∷ ‵ (froom MServo′.mir l36 0) ∷ ‵ (fdies MServo′.mir l36) ∷ ‵ (froom tyBool l35 0) ∷ ‵ (fdies tyBool l35) ∷ ‵ (froom tyBool l34 0) ∷ ‵ (fdies tyBool l34) ∷ ‵ (froom MAccepted′.mir l33 0) ∷ ‵ (fdies MAccepted′.mir l33) ∷ ‵ (froom MServo′.mir l32 0) ∷ ‵ (fdies MServo′.mir l32) ∷ ‵ (froom tyBool l31 0) ∷ ‵ (fdies tyBool l31) ∷ ‵ (froom MTold′.mir l30 0) ∷ ‵ (fdies MTold′.mir l30) ∷ ‵ (froom MDelaysWords′.mir l29 0) ∷ ‵ (fdies MDelaysWords′.mir l29) ∷ ‵ (froom MHalvesWords′.mir l28 0) ∷ ‵ (fdies MHalvesWords′.mir l28) ∷ ‵ (froom MEmptied′.mir l27 0) ∷ ‵ (fdies MEmptied′.mir l27) ∷ ‵ (froom tyBool l26 0) ∷ ‵ (fdies tyBool l26) ∷ ‵ (froom MHeld′.mir l25 0) ∷ ‵ (fdies MHeld′.mir l25) ∷ ‵ (froom MMasterWords′.mir l24 0) ∷ ‵ (fdies MMasterWords′.mir l24) ∷ ‵ (froom (tyInt w64) l23 0) ∷ ‵ (fdies (tyInt w64) l23) ∷ ‵ (froom tyBool l22 0) ∷ ‵ (fdies tyBool l22) ∷ ‵ (froom MSeat′.mir l21 0) ∷ ‵ (fdies MSeat′.mir l21) ∷ ‵ (froom MLooked′.mir l20 0) ∷ ‵ (fdies MLooked′.mir l20) ∷ ‵ (froom MLooked′.mir l19 0) ∷ ‵ (fdies MLooked′.mir l19) ∷ ‵ (froom MLooked′.mir l18 0) ∷ ‵ (fdies MLooked′.mir l18) ∷ ‵ (froom MLooked′.mir l17 0) ∷ ‵ (fdies MLooked′.mir l17) ∷ ‵ (froom MLooked′.mir l16 0) ∷ ‵ (fdies MLooked′.mir l16) ∷ ‵ (froom (tyInt w32) l15 0) ∷ ‵ (fdies (tyInt w32) l15) ∷ ‵ (froom tyBool l14 0) ∷ ‵ (fdies tyBool l14) ∷ ‵ (froom MStateWords′.mir l13 0) ∷ ‵ (fdies MStateWords′.mir l13) ∷ ‵ (fat fullShare MSettingsWords′.mir l12 0 u-24) ∷ ‵ (fdies MSettingsWords′.mir l12) ∷ ‵ (froom MMessage′.mir l11 0) ∷ ‵ (fdies MMessage′.mir l11) ∷ ‵ (froom tyBool l10 0) ∷ ‵ (fdies tyBool l10) ∷ ‵ (froom MReceived′.mir l9 0) ∷ ‵ (fdies MReceived′.mir l9) ∷ ‵ (froom (tyRef (named 5) mut (pointee (R-AnswerWords .written))) l8 0) ∷ ‵ (fdies (tyRef (named 5) mut (pointee (R-AnswerWords .written))) l8) ∷ ‵ (froom MStamp′.mir l7 0) ∷ ‵ (fdies MStamp′.mir l7) ∷ ‵ (froom (tyInt w64) l6 0) ∷ ‵ (fdies (tyInt w64) l6) ∷ ‵ (froom (sliceTy (tyRef (named 4) mut (tyInt w8))) l5 0) ∷ ‵ (fdies (sliceTy (tyRef (named 4) mut (tyInt w8))) l5) ∷ ‵ (fat fullShare (tyRef (named 3) mut (pointee (R-Watch .written))) l4 0 (vptr b4 o4)) ∷ ‵ (fdies (tyRef (named 3) mut (pointee (R-Watch .written))) l4) ∷ ‵ (froom (sliceTy (tyRef (named 2) mut (pointee (R-MasterWords .written)))) l3 0) ∷ ‵ (fdies (sliceTy (tyRef (named 2) mut (pointee (R-MasterWords .written)))) l3) ∷ ‵ (fat fullShare (tyRef (named 1) mut (pointee (R-Servo .written))) l2 0 (vptr b2 o2)) ∷ ‵ (fdies (tyRef (named 1) mut (pointee (R-Servo .written))) l2) ∷ ‵ (fat fullShare (tyRef (named 0) mut (pointee (R-UnitWords .written))) l1 0 (vptr b1 o1)) ∷ ‵ (fdies (tyRef (named 0) mut (pointee (R-UnitWords .written))) l1) ∷ ‵ (froom tyUnit l0 0) ∷ ‵ (fdies tyUnit l0) ∷ []) (runs C Λ En i-15-34-1 qq)
       from-15-34-1 qq ee zs-8 len-9 p-4 w-3 e-6 is-7 left1 good u-24 g-25 u-28 g-29 held2 p-31 w-30 e-32 is-33 g-34 p-36 w-35 e-37 is-38 g-39 p-41 w-40 e-42 is-43 g-44 p-46 w-45 e-47 is-48 g-49 p-51 w-50 e-52 is-53 g-54 p-56 w-55 e-57 is-58 p-60 w-59 e-61 is-62 left3 g-69 p-71 w-70 e-72 is-73 p-75 w-74 e-76 is-77 held4 =
           use0 W (raw (C-clear 𝓤 H A at-mem run .pre (to-clear (h1 .settings) u-24))) (goes-clear (h1 .settings) u-24 g-25) $
-          calls-at ! fm (C-clear 𝓤 H A at-mem run) known-clear (to-clear (h1 .settings) u-24) (and-then ! (load ! (from ! (stop !)) (look ! 120 refl)) (no-more !)) (λ w-82.
+          calls-at ! fm (C-clear 𝓤 H A at-mem run) known-clear (to-clear (h1 .settings) u-24) (and-then ! (load ! (from ! (stop !)) (look ! 128 refl)) (no-more !)) (λ w-82.
           use1 W (later (some (λ (p-83 : SEmptied.Emptied). (‵ ftrue ⊛ ‵ (R-Emptied .own p-83 (w-82 ∷ []))) ⊛ raw (ensured 𝓤 H A f-clear.ended (f-clear.clauses 𝓤 H A at-mem run) tt ((h1 .settings), tt) tt p-83)))) (id⊢ 𝓤 _) $ await ! tt $
           pick ! (λ p-83.
           split ! $
@@ -2186,8 +2186,8 @@ module _ {M : Type 1} (𝓤 : URA M) (H : Heap 𝓤) (A : Atoms 𝓤) (W : Given
           drop ! $
           peeks ! R-Emptied (Is R-Emptied) (shows 𝓤 H A R-Emptied) p-83 (w-82 ∷ []) (λ is-85.
           drop ! $
-          land ! (from ! (stop !)) (init ! 89 refl (lawful-Emptied 𝓤 H A W .typed p-83 _ is-85 .0)) $
-          rewrite ! 89 (λ (u : Val). ‵ (fat fullShare MEmptied′.mir l27 0 u)) ((parts-Emptied p-83 w-82 is-85) .whole-is) refl $
+          land ! (from ! (stop !)) (init ! 97 refl (lawful-Emptied 𝓤 H A W .typed p-83 _ is-85 .0)) $
+          rewrite ! 97 (λ (u : Val). ‵ (fat fullShare MEmptied′.mir l27 0 u)) ((parts-Emptied p-83 w-82 is-85) .whole-is) refl $
           opens ! tt R-UnitWords {h = (with-UnitWords-1 h1 (p-75 .state))} b1 o1 (λ vs-86.
           move ! (1 ∷ []) $
           peeks ! R-UnitWords (Is R-UnitWords) (shows 𝓤 H A R-UnitWords) (with-UnitWords-1 h1 (p-75 .state)) vs-86 (λ g-87.
@@ -2196,38 +2196,38 @@ module _ {M : Type 1} (𝓤 : URA M) (H : Heap 𝓤) (A : Atoms 𝓤) (W : Given
           move ! (1 ∷ []) $
           use1 W (‵ (fat fullShare MUnitWords′.mir b1 o1 (only vs-86))) (W .laws .raw-at fullShare MUnitWords′.mir b1 o1 (only vs-86)) $
           rewrite ! 0 (λ (u : Val). ‵ (fat fullShare MUnitWords′.mir b1 o1 u)) ((parts-UnitWords (with-UnitWords-1 h1 (p-75 .state)) (only vs-86) (one-UnitWords (with-UnitWords-1 h1 (p-75 .state)) vs-86 g-87)) .whole-is) refl $
-          assigns ! (of-opd ! (load ! (from ! (fld ! {τ = MHalvesWords′.mir} {d = off-Emptied-0} field-Emptied-0 (stop !))) (look-in ! 91 (sub ! {ν = name-of MEmptied′.mir} {τs = tys-of MEmptied′.mir} 0 {τ = MHalvesWords′.mir} {d = off-Emptied-0} field-Emptied-0 (whole !))))) (from ! (hop ! (look ! 143 refl) (fld ! {τ = MHalvesWords′.mir} {d = off-UnitWords-2} field-UnitWords-2 (stop !)))) (store-in ! 0 (sub ! {ν = name-of MUnitWords′.mir} {τs = tys-of MUnitWords′.mir} 2 {τ = MHalvesWords′.mir} {d = off-UnitWords-2} field-UnitWords-2 (whole !)) (lawful-HalvesWords 𝓤 H A W .typed (p-83 .halves) _ ((parts-Emptied p-83 w-82 is-85) .pg0) .0)) $
+          assigns ! (of-opd ! (load ! (from ! (fld ! {τ = MHalvesWords′.mir} {d = off-Emptied-0} field-Emptied-0 (stop !))) (look-in ! 99 (sub ! {ν = name-of MEmptied′.mir} {τs = tys-of MEmptied′.mir} 0 {τ = MHalvesWords′.mir} {d = off-Emptied-0} field-Emptied-0 (whole !))))) (from ! (hop ! (look ! 151 refl) (fld ! {τ = MHalvesWords′.mir} {d = off-UnitWords-2} field-UnitWords-2 (stop !)))) (store-in ! 0 (sub ! {ν = name-of MUnitWords′.mir} {τs = tys-of MUnitWords′.mir} 2 {τ = MHalvesWords′.mir} {d = off-UnitWords-2} field-UnitWords-2 (whole !)) (lawful-HalvesWords 𝓤 H A W .typed (p-83 .halves) _ ((parts-Emptied p-83 w-82 is-85) .pg0) .0)) $
           use1 W (‵ (cellAt fullShare (R-UnitWords .mir) ((vstruct (ofList (((parts-UnitWords (with-UnitWords-1 h1 (p-75 .state)) (only vs-86) (one-UnitWords (with-UnitWords-1 h1 (p-75 .state)) vs-86 g-87)) .pu0) ∷ ((parts-UnitWords (with-UnitWords-1 h1 (p-75 .state)) (only vs-86) (one-UnitWords (with-UnitWords-1 h1 (p-75 .state)) vs-86 g-87)) .pu1) ∷ ((parts-Emptied p-83 w-82 is-85) .pu0) ∷ ((parts-UnitWords (with-UnitWords-1 h1 (p-75 .state)) (only vs-86) (one-UnitWords (with-UnitWords-1 h1 (p-75 .state)) vs-86 g-87)) .pu3) ∷ []))) ∷ []) b1 o1)) (W .laws .at-raw fullShare MUnitWords′.mir b1 o1 (vstruct (ofList (((parts-UnitWords (with-UnitWords-1 h1 (p-75 .state)) (only vs-86) (one-UnitWords (with-UnitWords-1 h1 (p-75 .state)) vs-86 g-87)) .pu0) ∷ ((parts-UnitWords (with-UnitWords-1 h1 (p-75 .state)) (only vs-86) (one-UnitWords (with-UnitWords-1 h1 (p-75 .state)) vs-86 g-87)) .pu1) ∷ ((parts-Emptied p-83 w-82 is-85) .pu0) ∷ ((parts-UnitWords (with-UnitWords-1 h1 (p-75 .state)) (only vs-86) (one-UnitWords (with-UnitWords-1 h1 (p-75 .state)) vs-86 g-87)) .pu3) ∷ [])))) $
           move ! (1 ∷ []) $
           drop ! $
           owned ! R-UnitWords (Is R-UnitWords) (makes-UnitWords 𝓤 H A W) (with-UnitWords-2 (with-UnitWords-1 h1 (p-75 .state)) (p-83 .halves)) _ (shape-UnitWords (with-UnitWords-2 (with-UnitWords-1 h1 (p-75 .state)) (p-83 .halves)) ((parts-UnitWords (with-UnitWords-1 h1 (p-75 .state)) (only vs-86) (one-UnitWords (with-UnitWords-1 h1 (p-75 .state)) vs-86 g-87)) .pu0) ((parts-UnitWords (with-UnitWords-1 h1 (p-75 .state)) (only vs-86) (one-UnitWords (with-UnitWords-1 h1 (p-75 .state)) vs-86 g-87)) .pu1) ((parts-Emptied p-83 w-82 is-85) .pu0) ((parts-UnitWords (with-UnitWords-1 h1 (p-75 .state)) (only vs-86) (one-UnitWords (with-UnitWords-1 h1 (p-75 .state)) vs-86 g-87)) .pu3) ((parts-UnitWords (with-UnitWords-1 h1 (p-75 .state)) (only vs-86) (one-UnitWords (with-UnitWords-1 h1 (p-75 .state)) vs-86 g-87)) .pg0) ((parts-UnitWords (with-UnitWords-1 h1 (p-75 .state)) (only vs-86) (one-UnitWords (with-UnitWords-1 h1 (p-75 .state)) vs-86 g-87)) .pg1) ((parts-Emptied p-83 w-82 is-85) .pg0) ((parts-UnitWords (with-UnitWords-1 h1 (p-75 .state)) (only vs-86) (one-UnitWords (with-UnitWords-1 h1 (p-75 .state)) vs-86 g-87)) .pg3)) $
           move ! (1 ∷ 0 ∷ 2 ∷ 3 ∷ 4 ∷ []) $
           closes ! tt R-UnitWords (with-UnitWords-2 (with-UnitWords-1 h1 (p-75 .state)) (p-83 .halves)) ((vstruct (ofList (((parts-UnitWords (with-UnitWords-1 h1 (p-75 .state)) (only vs-86) (one-UnitWords (with-UnitWords-1 h1 (p-75 .state)) vs-86 g-87)) .pu0) ∷ ((parts-UnitWords (with-UnitWords-1 h1 (p-75 .state)) (only vs-86) (one-UnitWords (with-UnitWords-1 h1 (p-75 .state)) vs-86 g-87)) .pu1) ∷ ((parts-Emptied p-83 w-82 is-85) .pu0) ∷ ((parts-UnitWords (with-UnitWords-1 h1 (p-75 .state)) (only vs-86) (one-UnitWords (with-UnitWords-1 h1 (p-75 .state)) vs-86 g-87)) .pu3) ∷ []))) ∷ []) b1 o1 $
-          forget ! 119 refl $
+          forget ! 127 refl $
           from-15-34-3 qq ee zs-8 len-9 p-4 w-3 e-6 is-7 left1 good u-24 g-25 u-28 g-29 held2 p-31 w-30 e-32 is-33 g-34 p-36 w-35 e-37 is-38 g-39 p-41 w-40 e-42 is-43 g-44 p-46 w-45 e-47 is-48 g-49 p-51 w-50 e-52 is-53 g-54 p-56 w-55 e-57 is-58 p-60 w-59 e-61 is-62 left3 g-69 p-71 w-70 e-72 is-73 p-75 w-74 e-76 is-77 held4 p-83 w-82 e-84 is-85))))))
 
-      from-15-35 : (qq : Kit-Post 𝓤 H) (ee : post 𝓤 H qq returnsᴼ ≡ atReturn 𝓤 H En Post returnsᴼ) (zs-8 : List ℕ) (len-9 : length zs-8 ≡ length h5) (p-4 : SReceived.Received) (w-3 : Val) (e-6 : (p-4 ≡ receivedBy (readOf h5)) × (zs-8 ≡ h5)) (is-7 : Is R-Received p-4 (w-3 ∷ [])) (left1 : Holds (not (p-4 .barred))) (good : Holds (not (not (eqb (length h3) 5)))) (u-24 : Val) (g-25 : Is R-SettingsWords (h1 .settings) (u-24 ∷ [])) (u-28 : Val) (g-29 : Is R-StateWords (h1 .state) (u-28 ∷ [])) (held2 : Holds (p-4 .announces)) (p-31 : ℕ) (w-30 : Val) (e-32 : p-31 ≡ intervalOf ((h1 .settings) .announce)) (is-33 : Is R-u32 p-31 (w-30 ∷ [])) (g-34 : Is R-MasterWords (el 0) (v-MasterWords (el 0))) (p-36 : SLooked.Looked) (w-35 : Val) (e-37 : p-36 ≡ lookedOf (p-4 .message) h6 p-31 (recordIn (el 0))) (is-38 : Is R-Looked p-36 (w-35 ∷ [])) (g-39 : Is R-MasterWords (el 1) (v-MasterWords (el 1))) (p-41 : SLooked.Looked) (w-40 : Val) (e-42 : p-41 ≡ lookedOf (p-4 .message) h6 p-31 (recordIn (el 1))) (is-43 : Is R-Looked p-41 (w-40 ∷ [])) (g-44 : Is R-MasterWords (el 2) (v-MasterWords (el 2))) (p-46 : SLooked.Looked) (w-45 : Val) (e-47 : p-46 ≡ lookedOf (p-4 .message) h6 p-31 (recordIn (el 2))) (is-48 : Is R-Looked p-46 (w-45 ∷ [])) (g-49 : Is R-MasterWords (el 3) (v-MasterWords (el 3))) (p-51 : SLooked.Looked) (w-50 : Val) (e-52 : p-51 ≡ lookedOf (p-4 .message) h6 p-31 (recordIn (el 3))) (is-53 : Is R-Looked p-51 (w-50 ∷ [])) (g-54 : Is R-MasterWords (el 4) (v-MasterWords (el 4))) (p-56 : SLooked.Looked) (w-55 : Val) (e-57 : p-56 ≡ lookedOf (p-4 .message) h6 p-31 (recordIn (el 4))) (is-58 : Is R-Looked p-56 (w-55 ∷ [])) (p-60 : SSeat.Seat) (w-59 : Val) (e-61 : p-60 ≡ seatBy (h1 .settings) (h1 .state) (p-4 .message) h6 (p-36 .standing) (p-41 .standing) (p-46 .standing) (p-51 .standing) (p-56 .standing)) (is-62 : Is R-Seat p-60 (w-59 ∷ [])) (left3 : Holds (not (p-60 .barred))) (g-69 : Is R-MasterWords (el (p-60 .at)) (v-MasterWords (el (p-60 .at)))) (p-71 : SMasterWords.MasterWords) (w-70 : Val) (e-72 : p-71 ≡ placedOf (el (p-60 .at)) (p-4 .message) (p-60 .known) h6) (is-73 : Is R-MasterWords p-71 (w-70 ∷ [])) (p-75 : SHeld.Held) (w-74 : Val) (e-76 : p-75 ≡ heldOf (h1 .state) h6 (bestWith (p-60 .at) (candidateOf h6 p-31 (recordIn p-71)) (p-36 .candidate) (p-41 .candidate) (p-46 .candidate) (p-51 .candidate) (p-56 .candidate))) (is-77 : Is R-Held p-75 (w-74 ∷ [])) (left4 : Holds (not (p-75 .wipes))) → Sq W (‵ (fobs γ1 (R-UnitWords .coded .code (with-UnitWords-1 h1 (p-75 .state)))) ∷ ‵ (fbor κ1 (Body (mem R-UnitWords) b1 o1 γ1)) ∷ ‵ (flft κ1 q1) ∷ ‵ (fobs γ8 (R-AnswerWords .coded .code (p-75 .answer))) ∷ ‵ (fbor κ8 (Body (mem R-AnswerWords) b8 o8 γ8)) ∷ ‵ (flft κ8 q8) ∷ ‵ (fobs γ3 (codedHoleys R-MasterWords .code (heres R-MasterWords (set h3 (p-60 .at) p-71)))) ∷ ‵ (fbor κ3 (Held R-MasterWords (length (set h3 (p-60 .at) p-71)) b3 o3 γ3)) ∷ ‵ (flft κ3 q3) ∷ ‵ (MutSlice (named 4) κ5 R-u8 .own (x5 zs-8) ((sliceVal (b5, o5) (length h5)) ∷ [])) ∷ ‵ (flft κ5 q5) ∷ ‵ (flft κ4 q4) ∷ ‵ (flft κ2 q2) ∷ ‵ (ftrue) ∷ ‵ (R-Stamp .own h7 (u7 ∷ [])) ∷ ‵ (R-u64 .own h6 (u6 ∷ [])) ∷ ‵ (fobs γ4 (R-Watch .coded .code h4)) ∷ ‵ (fbor κ4 (Body (mem R-Watch) b4 o4 γ4)) ∷ ‵ (at-slice R-MasterWords (x3 h3) ((sliceVal (b3, o3) (length h3)) ∷ [])) ∷ ‵ (fobs γ2 (R-Servo .coded .code h2)) ∷ ‵ (fbor κ2 (Body (mem R-Servo) b2 o2 γ2)) ∷ ‵ (froom (tyRef erased mut (pointee (R-u8x128 .written))) l61 0) ∷ ‵ (fdies (tyRef erased mut (pointee (R-u8x128 .written))) l61) ∷ ‵ (froom (tyRef erased mut (pointee (R-i32x128 .written))) l60 0) ∷ ‵ (fdies (tyRef erased mut (pointee (R-i32x128 .written))) l60) ∷ ‵ (froom (tyRef erased mut (pointee (R-i64x128 .written))) l59 0) ∷ ‵ (fdies (tyRef erased mut (pointee (R-i64x128 .written))) l59) ∷ ‵ (froom MHead′.mir l58 0) ∷ ‵ (fdies MHead′.mir l58) ∷ ‵ (froom MAnswerWords′.mir l57 0) ∷ ‵ (fdies MAnswerWords′.mir l57) ∷ ‵ (froom MAnswerWords′.mir l56 0) ∷ ‵ (fdies MAnswerWords′.mir l56) ∷ ‵ (froom (tyRef erased mut (pointee (R-u8x128 .written))) l55 0) ∷ ‵ (fdies (tyRef erased mut (pointee (R-u8x128 .written))) l55) ∷ ‵ (froom (tyRef erased mut (pointee (R-i32x128 .written))) l54 0) ∷ ‵ (fdies (tyRef erased mut (pointee (R-i32x128 .written))) l54) ∷ ‵ (froom (tyRef erased mut (pointee (R-i64x128 .written))) l53 0) ∷ ‵ (fdies (tyRef erased mut (pointee (R-i64x128 .written))) l53) ∷ ‵ (froom MHead′.mir l52 0) ∷ ‵ (fdies MHead′.mir l52) ∷ ‵ (froom tyPtr l51 0) ∷ ‵ (fdies tyPtr l51) ∷ ‵ (froom tyPtr l50 0) ∷ ‵ (fdies tyPtr l50) ∷ ‵ (froom (tyInt w64) l49 0) ∷ ‵ (fdies (tyInt w64) l49) ∷ ‵ (froom MAnswerWords′.mir l48 0) ∷ ‵ (fdies MAnswerWords′.mir l48) ∷ ‵ (froom tyBool l47 0) ∷ ‵ (fdies tyBool l47) ∷ ‵ (froom tyPtr l46 0) ∷ ‵ (fdies tyPtr l46) ∷ ‵ (froom tyPtr l45 0) ∷ ‵ (fdies tyPtr l45) ∷ ‵ (froom tyPtr l44 0) ∷ ‵ (fdies tyPtr l44) ∷ ‵ (froom tyPtr l43 0) ∷ ‵ (fdies tyPtr l43) ∷ ‵ (froom MMasterWords′.mir l42 0) ∷ ‵ (fdies MMasterWords′.mir l42) ∷ ‵ (froom tyPtr l41 0) ∷ ‵ (fdies tyPtr l41) ∷ ‵ (froom MAnswerWords′.mir l40 0) ∷ ‵ (fdies MAnswerWords′.mir l40) ∷ ‵ (froom (tyInt w64) l39 0) ∷ ‵ (fdies (tyInt w64) l39) ∷ ‵ (froom MAnswerWords′.mir l38 0) ∷ ‵ (fdies MAnswerWords′.mir l38) ∷ ‵ (froom tyBool l37 0) ∷ ‵ (fdies tyBool l37) ∷ ‵ (froom (sliceTy (tyRef erased mut (tyInt w8))) l36 0) ∷ ‵ (fdies (sliceTy (tyRef erased mut (tyInt w8))) l36) ∷ ‵ (froom (tyRef erased mut (tyInt w8)) l35 0) ∷ ‵ (fdies (tyRef erased mut (tyInt w8)) l35) ∷ ‵ (froom tyBool l34 0) ∷ ‵ (fdies tyBool l34) ∷ ‵ (froom MServo′.mir l33 0) ∷ ‵ (fdies MServo′.mir l33) ∷ ‵ (froom MServo′.mir l32 0) ∷ ‵ (fdies MServo′.mir l32) ∷ ‵ (froom tyBool l31 0) ∷ ‵ (fdies tyBool l31) ∷ ‵ (froom MTold′.mir l30 0) ∷ ‵ (fdies MTold′.mir l30) ∷ ‵ (froom MDelaysWords′.mir l29 0) ∷ ‵ (fdies MDelaysWords′.mir l29) ∷ ‵ (froom MHalvesWords′.mir l28 0) ∷ ‵ (fdies MHalvesWords′.mir l28) ∷ ‵ (froom MEmptied′.mir l27 0) ∷ ‵ (fdies MEmptied′.mir l27) ∷ ‵ (froom tyBool l26 0) ∷ ‵ (fdies tyBool l26) ∷ ‵ (froom MHeld′.mir l25 0) ∷ ‵ (fdies MHeld′.mir l25) ∷ ‵ (froom MMasterWords′.mir l24 0) ∷ ‵ (fdies MMasterWords′.mir l24) ∷ ‵ (froom (tyInt w64) l23 0) ∷ ‵ (fdies (tyInt w64) l23) ∷ ‵ (froom tyBool l22 0) ∷ ‵ (fdies tyBool l22) ∷ ‵ (froom MSeat′.mir l21 0) ∷ ‵ (fdies MSeat′.mir l21) ∷ ‵ (froom MLooked′.mir l20 0) ∷ ‵ (fdies MLooked′.mir l20) ∷ ‵ (froom MLooked′.mir l19 0) ∷ ‵ (fdies MLooked′.mir l19) ∷ ‵ (froom MLooked′.mir l18 0) ∷ ‵ (fdies MLooked′.mir l18) ∷ ‵ (froom MLooked′.mir l17 0) ∷ ‵ (fdies MLooked′.mir l17) ∷ ‵ (froom MLooked′.mir l16 0) ∷ ‵ (fdies MLooked′.mir l16) ∷ ‵ (froom (tyInt w32) l15 0) ∷ ‵ (fdies (tyInt w32) l15) ∷ ‵ (froom tyBool l14 0) ∷ ‵ (fdies tyBool l14) ∷ ‵ (froom MStateWords′.mir l13 0) ∷ ‵ (fdies MStateWords′.mir l13) ∷ ‵ (froom MSettingsWords′.mir l12 0) ∷ ‵ (fdies MSettingsWords′.mir l12) ∷ ‵ (froom MMessage′.mir l11 0) ∷ ‵ (fdies MMessage′.mir l11) ∷ ‵ (froom tyBool l10 0) ∷ ‵ (fdies tyBool l10) ∷ ‵ (froom MReceived′.mir l9 0) ∷ ‵ (fdies MReceived′.mir l9) ∷ ‵ (froom (tyRef (named 5) mut (pointee (R-AnswerWords .written))) l8 0) ∷ ‵ (fdies (tyRef (named 5) mut (pointee (R-AnswerWords .written))) l8) ∷ ‵ (froom MStamp′.mir l7 0) ∷ ‵ (fdies MStamp′.mir l7) ∷ ‵ (froom (tyInt w64) l6 0) ∷ ‵ (fdies (tyInt w64) l6) ∷ ‵ (froom (sliceTy (tyRef (named 4) mut (tyInt w8))) l5 0) ∷ ‵ (fdies (sliceTy (tyRef (named 4) mut (tyInt w8))) l5) ∷ ‵ (froom (tyRef (named 3) mut (pointee (R-Watch .written))) l4 0) ∷ ‵ (fdies (tyRef (named 3) mut (pointee (R-Watch .written))) l4) ∷ ‵ (froom (sliceTy (tyRef (named 2) mut (pointee (R-MasterWords .written)))) l3 0) ∷ ‵ (fdies (sliceTy (tyRef (named 2) mut (pointee (R-MasterWords .written)))) l3) ∷ ‵ (froom (tyRef (named 1) mut (pointee (R-Servo .written))) l2 0) ∷ ‵ (fdies (tyRef (named 1) mut (pointee (R-Servo .written))) l2) ∷ ‵ (froom (tyRef (named 0) mut (pointee (R-UnitWords .written))) l1 0) ∷ ‵ (fdies (tyRef (named 0) mut (pointee (R-UnitWords .written))) l1) ∷ ‵ (froom tyUnit l0 0) ∷ ‵ (fdies tyUnit l0) ∷ []) (runs C Λ En i-15-35 qq)
+      from-15-35 : (qq : Kit-Post 𝓤 H) (ee : post 𝓤 H qq returnsᴼ ≡ atReturn 𝓤 H En Post returnsᴼ) (zs-8 : List ℕ) (len-9 : length zs-8 ≡ length h5) (p-4 : SReceived.Received) (w-3 : Val) (e-6 : (p-4 ≡ receivedBy (readOf h5)) × (zs-8 ≡ h5)) (is-7 : Is R-Received p-4 (w-3 ∷ [])) (left1 : Holds (not (p-4 .barred))) (good : Holds (not (not (eqb (length h3) 5)))) (u-24 : Val) (g-25 : Is R-SettingsWords (h1 .settings) (u-24 ∷ [])) (u-28 : Val) (g-29 : Is R-StateWords (h1 .state) (u-28 ∷ [])) (held2 : Holds (p-4 .announces)) (p-31 : ℕ) (w-30 : Val) (e-32 : p-31 ≡ intervalOf ((h1 .settings) .announce)) (is-33 : Is R-u32 p-31 (w-30 ∷ [])) (g-34 : Is R-MasterWords (el 0) (v-MasterWords (el 0))) (p-36 : SLooked.Looked) (w-35 : Val) (e-37 : p-36 ≡ lookedOf (p-4 .message) h6 p-31 (recordIn (el 0))) (is-38 : Is R-Looked p-36 (w-35 ∷ [])) (g-39 : Is R-MasterWords (el 1) (v-MasterWords (el 1))) (p-41 : SLooked.Looked) (w-40 : Val) (e-42 : p-41 ≡ lookedOf (p-4 .message) h6 p-31 (recordIn (el 1))) (is-43 : Is R-Looked p-41 (w-40 ∷ [])) (g-44 : Is R-MasterWords (el 2) (v-MasterWords (el 2))) (p-46 : SLooked.Looked) (w-45 : Val) (e-47 : p-46 ≡ lookedOf (p-4 .message) h6 p-31 (recordIn (el 2))) (is-48 : Is R-Looked p-46 (w-45 ∷ [])) (g-49 : Is R-MasterWords (el 3) (v-MasterWords (el 3))) (p-51 : SLooked.Looked) (w-50 : Val) (e-52 : p-51 ≡ lookedOf (p-4 .message) h6 p-31 (recordIn (el 3))) (is-53 : Is R-Looked p-51 (w-50 ∷ [])) (g-54 : Is R-MasterWords (el 4) (v-MasterWords (el 4))) (p-56 : SLooked.Looked) (w-55 : Val) (e-57 : p-56 ≡ lookedOf (p-4 .message) h6 p-31 (recordIn (el 4))) (is-58 : Is R-Looked p-56 (w-55 ∷ [])) (p-60 : SSeat.Seat) (w-59 : Val) (e-61 : p-60 ≡ seatBy (h1 .settings) (h1 .state) (p-4 .message) h6 (p-36 .standing) (p-41 .standing) (p-46 .standing) (p-51 .standing) (p-56 .standing)) (is-62 : Is R-Seat p-60 (w-59 ∷ [])) (left3 : Holds (not (p-60 .barred))) (g-69 : Is R-MasterWords (el (p-60 .at)) (v-MasterWords (el (p-60 .at)))) (p-71 : SMasterWords.MasterWords) (w-70 : Val) (e-72 : p-71 ≡ placedOf (el (p-60 .at)) (p-4 .message) (p-60 .known) h6) (is-73 : Is R-MasterWords p-71 (w-70 ∷ [])) (p-75 : SHeld.Held) (w-74 : Val) (e-76 : p-75 ≡ heldOf (h1 .state) h6 (bestWith (p-60 .at) (candidateOf h6 p-31 (recordIn p-71)) (p-36 .candidate) (p-41 .candidate) (p-46 .candidate) (p-51 .candidate) (p-56 .candidate))) (is-77 : Is R-Held p-75 (w-74 ∷ [])) (left4 : Holds (not (p-75 .wipes))) → Sq W (‵ (fobs γ1 (R-UnitWords .coded .code (with-UnitWords-1 h1 (p-75 .state)))) ∷ ‵ (fbor κ1 (Body (mem R-UnitWords) b1 o1 γ1)) ∷ ‵ (flft κ1 q1) ∷ ‵ (fobs γ8 (R-AnswerWords .coded .code (p-75 .answer))) ∷ ‵ (fbor κ8 (Body (mem R-AnswerWords) b8 o8 γ8)) ∷ ‵ (flft κ8 q8) ∷ ‵ (fobs γ3 (codedHoleys R-MasterWords .code (heres R-MasterWords (set h3 (p-60 .at) p-71)))) ∷ ‵ (fbor κ3 (Held R-MasterWords (length (set h3 (p-60 .at) p-71)) b3 o3 γ3)) ∷ ‵ (flft κ3 q3) ∷ ‵ (MutSlice (named 4) κ5 R-u8 .own (x5 zs-8) ((sliceVal (b5, o5) (length h5)) ∷ [])) ∷ ‵ (flft κ5 q5) ∷ ‵ (flft κ4 q4) ∷ ‵ (flft κ2 q2) ∷ ‵ (ftrue) ∷ ‵ (R-Stamp .own h7 (u7 ∷ [])) ∷ ‵ (R-u64 .own h6 (u6 ∷ [])) ∷ ‵ (fobs γ4 (R-Watch .coded .code h4)) ∷ ‵ (fbor κ4 (Body (mem R-Watch) b4 o4 γ4)) ∷ ‵ (at-slice R-MasterWords (x3 h3) ((sliceVal (b3, o3) (length h3)) ∷ [])) ∷ ‵ (fobs γ2 (R-Servo .coded .code h2)) ∷ ‵ (fbor κ2 (Body (mem R-Servo) b2 o2 γ2)) ∷ ‵ (froom (tyRef erased mut (pointee (R-u8x128 .written))) l65 0) ∷ ‵ (fdies (tyRef erased mut (pointee (R-u8x128 .written))) l65) ∷ ‵ (froom (tyRef erased mut (pointee (R-i32x128 .written))) l64 0) ∷ ‵ (fdies (tyRef erased mut (pointee (R-i32x128 .written))) l64) ∷ ‵ (froom (tyRef erased mut (pointee (R-i64x128 .written))) l63 0) ∷ ‵ (fdies (tyRef erased mut (pointee (R-i64x128 .written))) l63) ∷ ‵ (froom MHead′.mir l62 0) ∷ ‵ (fdies MHead′.mir l62) ∷ ‵ (froom MAnswerWords′.mir l61 0) ∷ ‵ (fdies MAnswerWords′.mir l61) ∷ ‵ (froom MAnswerWords′.mir l60 0) ∷ ‵ (fdies MAnswerWords′.mir l60) ∷ ‵ (froom (tyRef erased mut (pointee (R-u8x128 .written))) l59 0) ∷ ‵ (fdies (tyRef erased mut (pointee (R-u8x128 .written))) l59) ∷ ‵ (froom (tyRef erased mut (pointee (R-i32x128 .written))) l58 0) ∷ ‵ (fdies (tyRef erased mut (pointee (R-i32x128 .written))) l58) ∷ ‵ (froom (tyRef erased mut (pointee (R-i64x128 .written))) l57 0) ∷ ‵ (fdies (tyRef erased mut (pointee (R-i64x128 .written))) l57) ∷ ‵ (froom MHead′.mir l56 0) ∷ ‵ (fdies MHead′.mir l56) ∷ ‵ (froom tyPtr l55 0) ∷ ‵ (fdies tyPtr l55) ∷ ‵ (froom tyPtr l54 0) ∷ ‵ (fdies tyPtr l54) ∷ ‵ (froom (tyInt w64) l53 0) ∷ ‵ (fdies (tyInt w64) l53) ∷ ‵ (froom MAnswerWords′.mir l52 0) ∷ ‵ (fdies MAnswerWords′.mir l52) ∷ ‵ (froom tyBool l51 0) ∷ ‵ (fdies tyBool l51) ∷ ‵ (froom tyPtr l50 0) ∷ ‵ (fdies tyPtr l50) ∷ ‵ (froom tyPtr l49 0) ∷ ‵ (fdies tyPtr l49) ∷ ‵ (froom tyPtr l48 0) ∷ ‵ (fdies tyPtr l48) ∷ ‵ (froom tyPtr l47 0) ∷ ‵ (fdies tyPtr l47) ∷ ‵ (froom MMasterWords′.mir l46 0) ∷ ‵ (fdies MMasterWords′.mir l46) ∷ ‵ (froom tyPtr l45 0) ∷ ‵ (fdies tyPtr l45) ∷ ‵ (froom MAnswerWords′.mir l44 0) ∷ ‵ (fdies MAnswerWords′.mir l44) ∷ ‵ (froom (tyInt w64) l43 0) ∷ ‵ (fdies (tyInt w64) l43) ∷ ‵ (froom MAnswerWords′.mir l42 0) ∷ ‵ (fdies MAnswerWords′.mir l42) ∷ ‵ (froom tyBool l41 0) ∷ ‵ (fdies tyBool l41) ∷ ‵ (froom (sliceTy (tyRef erased mut (tyInt w8))) l40 0) ∷ ‵ (fdies (sliceTy (tyRef erased mut (tyInt w8))) l40) ∷ ‵ (froom (tyRef erased mut (tyInt w8)) l39 0) ∷ ‵ (fdies (tyRef erased mut (tyInt w8)) l39) ∷ ‵ (froom (tyInt w16) l38 0) ∷ ‵ (fdies (tyInt w16) l38) ∷ ‵ (froom (tyInt w8) l37 0) ∷ ‵ (fdies (tyInt w8) l37) ∷ ‵ (froom MServo′.mir l36 0) ∷ ‵ (fdies MServo′.mir l36) ∷ ‵ (froom tyBool l35 0) ∷ ‵ (fdies tyBool l35) ∷ ‵ (froom tyBool l34 0) ∷ ‵ (fdies tyBool l34) ∷ ‵ (froom MAccepted′.mir l33 0) ∷ ‵ (fdies MAccepted′.mir l33) ∷ ‵ (froom MServo′.mir l32 0) ∷ ‵ (fdies MServo′.mir l32) ∷ ‵ (froom tyBool l31 0) ∷ ‵ (fdies tyBool l31) ∷ ‵ (froom MTold′.mir l30 0) ∷ ‵ (fdies MTold′.mir l30) ∷ ‵ (froom MDelaysWords′.mir l29 0) ∷ ‵ (fdies MDelaysWords′.mir l29) ∷ ‵ (froom MHalvesWords′.mir l28 0) ∷ ‵ (fdies MHalvesWords′.mir l28) ∷ ‵ (froom MEmptied′.mir l27 0) ∷ ‵ (fdies MEmptied′.mir l27) ∷ ‵ (froom tyBool l26 0) ∷ ‵ (fdies tyBool l26) ∷ ‵ (froom MHeld′.mir l25 0) ∷ ‵ (fdies MHeld′.mir l25) ∷ ‵ (froom MMasterWords′.mir l24 0) ∷ ‵ (fdies MMasterWords′.mir l24) ∷ ‵ (froom (tyInt w64) l23 0) ∷ ‵ (fdies (tyInt w64) l23) ∷ ‵ (froom tyBool l22 0) ∷ ‵ (fdies tyBool l22) ∷ ‵ (froom MSeat′.mir l21 0) ∷ ‵ (fdies MSeat′.mir l21) ∷ ‵ (froom MLooked′.mir l20 0) ∷ ‵ (fdies MLooked′.mir l20) ∷ ‵ (froom MLooked′.mir l19 0) ∷ ‵ (fdies MLooked′.mir l19) ∷ ‵ (froom MLooked′.mir l18 0) ∷ ‵ (fdies MLooked′.mir l18) ∷ ‵ (froom MLooked′.mir l17 0) ∷ ‵ (fdies MLooked′.mir l17) ∷ ‵ (froom MLooked′.mir l16 0) ∷ ‵ (fdies MLooked′.mir l16) ∷ ‵ (froom (tyInt w32) l15 0) ∷ ‵ (fdies (tyInt w32) l15) ∷ ‵ (froom tyBool l14 0) ∷ ‵ (fdies tyBool l14) ∷ ‵ (froom MStateWords′.mir l13 0) ∷ ‵ (fdies MStateWords′.mir l13) ∷ ‵ (froom MSettingsWords′.mir l12 0) ∷ ‵ (fdies MSettingsWords′.mir l12) ∷ ‵ (froom MMessage′.mir l11 0) ∷ ‵ (fdies MMessage′.mir l11) ∷ ‵ (froom tyBool l10 0) ∷ ‵ (fdies tyBool l10) ∷ ‵ (froom MReceived′.mir l9 0) ∷ ‵ (fdies MReceived′.mir l9) ∷ ‵ (froom (tyRef (named 5) mut (pointee (R-AnswerWords .written))) l8 0) ∷ ‵ (fdies (tyRef (named 5) mut (pointee (R-AnswerWords .written))) l8) ∷ ‵ (froom MStamp′.mir l7 0) ∷ ‵ (fdies MStamp′.mir l7) ∷ ‵ (froom (tyInt w64) l6 0) ∷ ‵ (fdies (tyInt w64) l6) ∷ ‵ (froom (sliceTy (tyRef (named 4) mut (tyInt w8))) l5 0) ∷ ‵ (fdies (sliceTy (tyRef (named 4) mut (tyInt w8))) l5) ∷ ‵ (froom (tyRef (named 3) mut (pointee (R-Watch .written))) l4 0) ∷ ‵ (fdies (tyRef (named 3) mut (pointee (R-Watch .written))) l4) ∷ ‵ (froom (sliceTy (tyRef (named 2) mut (pointee (R-MasterWords .written)))) l3 0) ∷ ‵ (fdies (sliceTy (tyRef (named 2) mut (pointee (R-MasterWords .written)))) l3) ∷ ‵ (froom (tyRef (named 1) mut (pointee (R-Servo .written))) l2 0) ∷ ‵ (fdies (tyRef (named 1) mut (pointee (R-Servo .written))) l2) ∷ ‵ (froom (tyRef (named 0) mut (pointee (R-UnitWords .written))) l1 0) ∷ ‵ (fdies (tyRef (named 0) mut (pointee (R-UnitWords .written))) l1) ∷ ‵ (froom tyUnit l0 0) ∷ ‵ (fdies tyUnit l0) ∷ []) (runs C Λ En i-15-35 qq)
       from-15-35 qq ee zs-8 len-9 p-4 w-3 e-6 is-7 left1 good u-24 g-25 u-28 g-29 held2 p-31 w-30 e-32 is-33 g-34 p-36 w-35 e-37 is-38 g-39 p-41 w-40 e-42 is-43 g-44 p-46 w-45 e-47 is-48 g-49 p-51 w-50 e-52 is-53 g-54 p-56 w-55 e-57 is-58 p-60 w-59 e-61 is-62 left3 g-69 p-71 w-70 e-72 is-73 p-75 w-74 e-76 is-77 left4 =
-          assigns ! (of-opd ! (unit-lit !)) (from ! (stop !)) (init ! 143 refl (tt, tt)) $
-          returns-within ! Post ee (look ! 143 refl) $
-          forget ! 143 refl $
-          move ! (143 ∷ 144 ∷ 141 ∷ 142 ∷ 139 ∷ 140 ∷ 137 ∷ 138 ∷ 135 ∷ 136 ∷ 133 ∷ 134 ∷ 131 ∷ 132 ∷ 129 ∷ 130 ∷ 127 ∷ 128 ∷ 125 ∷ 126 ∷ 123 ∷ 124 ∷ 121 ∷ 122 ∷ 119 ∷ 120 ∷ 117 ∷ 118 ∷ 115 ∷ 116 ∷ 113 ∷ 114 ∷ 111 ∷ 112 ∷ 109 ∷ 110 ∷ 107 ∷ 108 ∷ 105 ∷ 106 ∷ 103 ∷ 104 ∷ 101 ∷ 102 ∷ 99 ∷ 100 ∷ 97 ∷ 98 ∷ 95 ∷ 96 ∷ 93 ∷ 94 ∷ 91 ∷ 92 ∷ 89 ∷ 90 ∷ 87 ∷ 88 ∷ 85 ∷ 86 ∷ 83 ∷ 84 ∷ 81 ∷ 82 ∷ 79 ∷ 80 ∷ 77 ∷ 78 ∷ 75 ∷ 76 ∷ 73 ∷ 74 ∷ 71 ∷ 72 ∷ 69 ∷ 70 ∷ 67 ∷ 68 ∷ 65 ∷ 66 ∷ 63 ∷ 64 ∷ 61 ∷ 62 ∷ 59 ∷ 60 ∷ 57 ∷ 58 ∷ 55 ∷ 56 ∷ 53 ∷ 54 ∷ 51 ∷ 52 ∷ 49 ∷ 50 ∷ 47 ∷ 48 ∷ 45 ∷ 46 ∷ 43 ∷ 44 ∷ 41 ∷ 42 ∷ 39 ∷ 40 ∷ 37 ∷ 38 ∷ 35 ∷ 36 ∷ 33 ∷ 34 ∷ 31 ∷ 32 ∷ 29 ∷ 30 ∷ 27 ∷ 28 ∷ 25 ∷ 26 ∷ 23 ∷ 24 ∷ 21 ∷ 22 ∷ []) $
+          assigns ! (of-opd ! (unit-lit !)) (from ! (stop !)) (init ! 151 refl (tt, tt)) $
+          returns-within ! Post ee (look ! 151 refl) $
+          forget ! 151 refl $
+          move ! (151 ∷ 152 ∷ 149 ∷ 150 ∷ 147 ∷ 148 ∷ 145 ∷ 146 ∷ 143 ∷ 144 ∷ 141 ∷ 142 ∷ 139 ∷ 140 ∷ 137 ∷ 138 ∷ 135 ∷ 136 ∷ 133 ∷ 134 ∷ 131 ∷ 132 ∷ 129 ∷ 130 ∷ 127 ∷ 128 ∷ 125 ∷ 126 ∷ 123 ∷ 124 ∷ 121 ∷ 122 ∷ 119 ∷ 120 ∷ 117 ∷ 118 ∷ 115 ∷ 116 ∷ 113 ∷ 114 ∷ 111 ∷ 112 ∷ 109 ∷ 110 ∷ 107 ∷ 108 ∷ 105 ∷ 106 ∷ 103 ∷ 104 ∷ 101 ∷ 102 ∷ 99 ∷ 100 ∷ 97 ∷ 98 ∷ 95 ∷ 96 ∷ 93 ∷ 94 ∷ 91 ∷ 92 ∷ 89 ∷ 90 ∷ 87 ∷ 88 ∷ 85 ∷ 86 ∷ 83 ∷ 84 ∷ 81 ∷ 82 ∷ 79 ∷ 80 ∷ 77 ∷ 78 ∷ 75 ∷ 76 ∷ 73 ∷ 74 ∷ 71 ∷ 72 ∷ 69 ∷ 70 ∷ 67 ∷ 68 ∷ 65 ∷ 66 ∷ 63 ∷ 64 ∷ 61 ∷ 62 ∷ 59 ∷ 60 ∷ 57 ∷ 58 ∷ 55 ∷ 56 ∷ 53 ∷ 54 ∷ 51 ∷ 52 ∷ 49 ∷ 50 ∷ 47 ∷ 48 ∷ 45 ∷ 46 ∷ 43 ∷ 44 ∷ 41 ∷ 42 ∷ 39 ∷ 40 ∷ 37 ∷ 38 ∷ 35 ∷ 36 ∷ 33 ∷ 34 ∷ 31 ∷ 32 ∷ 29 ∷ 30 ∷ 27 ∷ 28 ∷ 25 ∷ 26 ∷ 23 ∷ 24 ∷ 21 ∷ 22 ∷ []) $
           freed _ _ (
           keep ! (0 ∷ 1 ∷ 2 ∷ 19 ∷ 20 ∷ 12 ∷ 6 ∷ 7 ∷ 8 ∷ 16 ∷ 17 ∷ 11 ∷ 9 ∷ 10 ∷ 3 ∷ 4 ∷ 5 ∷ 15 ∷ 14 ∷ 13 ∷ []) $
           by ! (exits-5 zs-8 len-9 p-4 w-3 e-6 is-7 left1 good u-24 g-25 u-28 g-29 held2 p-31 w-30 e-32 is-33 g-34 p-36 w-35 e-37 is-38 g-39 p-41 w-40 e-42 is-43 g-44 p-46 w-45 e-47 is-48 g-49 p-51 w-50 e-52 is-53 g-54 p-56 w-55 e-57 is-58 p-60 w-59 e-61 is-62 left3 g-69 p-71 w-70 e-72 is-73 p-75 w-74 e-76 is-77 left4))
 
-      from-15-32 : (qq : Kit-Post 𝓤 H) (ee : post 𝓤 H qq returnsᴼ ≡ atReturn 𝓤 H En Post returnsᴼ) (zs-8 : List ℕ) (len-9 : length zs-8 ≡ length h5) (p-4 : SReceived.Received) (w-3 : Val) (e-6 : (p-4 ≡ receivedBy (readOf h5)) × (zs-8 ≡ h5)) (is-7 : Is R-Received p-4 (w-3 ∷ [])) (left1 : Holds (not (p-4 .barred))) (good : Holds (not (not (eqb (length h3) 5)))) (u-24 : Val) (g-25 : Is R-SettingsWords (h1 .settings) (u-24 ∷ [])) (u-28 : Val) (g-29 : Is R-StateWords (h1 .state) (u-28 ∷ [])) (held2 : Holds (p-4 .announces)) (p-31 : ℕ) (w-30 : Val) (e-32 : p-31 ≡ intervalOf ((h1 .settings) .announce)) (is-33 : Is R-u32 p-31 (w-30 ∷ [])) (g-34 : Is R-MasterWords (el 0) (v-MasterWords (el 0))) (p-36 : SLooked.Looked) (w-35 : Val) (e-37 : p-36 ≡ lookedOf (p-4 .message) h6 p-31 (recordIn (el 0))) (is-38 : Is R-Looked p-36 (w-35 ∷ [])) (g-39 : Is R-MasterWords (el 1) (v-MasterWords (el 1))) (p-41 : SLooked.Looked) (w-40 : Val) (e-42 : p-41 ≡ lookedOf (p-4 .message) h6 p-31 (recordIn (el 1))) (is-43 : Is R-Looked p-41 (w-40 ∷ [])) (g-44 : Is R-MasterWords (el 2) (v-MasterWords (el 2))) (p-46 : SLooked.Looked) (w-45 : Val) (e-47 : p-46 ≡ lookedOf (p-4 .message) h6 p-31 (recordIn (el 2))) (is-48 : Is R-Looked p-46 (w-45 ∷ [])) (g-49 : Is R-MasterWords (el 3) (v-MasterWords (el 3))) (p-51 : SLooked.Looked) (w-50 : Val) (e-52 : p-51 ≡ lookedOf (p-4 .message) h6 p-31 (recordIn (el 3))) (is-53 : Is R-Looked p-51 (w-50 ∷ [])) (g-54 : Is R-MasterWords (el 4) (v-MasterWords (el 4))) (p-56 : SLooked.Looked) (w-55 : Val) (e-57 : p-56 ≡ lookedOf (p-4 .message) h6 p-31 (recordIn (el 4))) (is-58 : Is R-Looked p-56 (w-55 ∷ [])) (p-60 : SSeat.Seat) (w-59 : Val) (e-61 : p-60 ≡ seatBy (h1 .settings) (h1 .state) (p-4 .message) h6 (p-36 .standing) (p-41 .standing) (p-46 .standing) (p-51 .standing) (p-56 .standing)) (is-62 : Is R-Seat p-60 (w-59 ∷ [])) (left3 : Holds (not (p-60 .barred))) (g-69 : Is R-MasterWords (el (p-60 .at)) (v-MasterWords (el (p-60 .at)))) (p-71 : SMasterWords.MasterWords) (w-70 : Val) (e-72 : p-71 ≡ placedOf (el (p-60 .at)) (p-4 .message) (p-60 .known) h6) (is-73 : Is R-MasterWords p-71 (w-70 ∷ [])) (p-75 : SHeld.Held) (w-74 : Val) (e-76 : p-75 ≡ heldOf (h1 .state) h6 (bestWith (p-60 .at) (candidateOf h6 p-31 (recordIn p-71)) (p-36 .candidate) (p-41 .candidate) (p-46 .candidate) (p-51 .candidate) (p-56 .candidate))) (is-77 : Is R-Held p-75 (w-74 ∷ [])) → Sq W (‵ (fobs γ1 (R-UnitWords .coded .code (with-UnitWords-1 h1 (p-75 .state)))) ∷ ‵ (fbor κ1 (Body (mem R-UnitWords) b1 o1 γ1)) ∷ ‵ (flft κ1 q1) ∷ ‵ (fobs γ8 (R-AnswerWords .coded .code (p-75 .answer))) ∷ ‵ (fbor κ8 (Body (mem R-AnswerWords) b8 o8 γ8)) ∷ ‵ (flft κ8 q8) ∷ ‵ (fobs γ3 (codedHoleys R-MasterWords .code (heres R-MasterWords (set h3 (p-60 .at) p-71)))) ∷ ‵ (fbor κ3 (Held R-MasterWords (length (set h3 (p-60 .at) p-71)) b3 o3 γ3)) ∷ ‵ (flft κ3 q3) ∷ ‵ (MutSlice (named 4) κ5 R-u8 .own (x5 zs-8) ((sliceVal (b5, o5) (length h5)) ∷ [])) ∷ ‵ (flft κ5 q5) ∷ ‵ (flft κ4 q4) ∷ ‵ (flft κ2 q2) ∷ ‵ (ftrue) ∷ ‵ (R-Stamp .own h7 (u7 ∷ [])) ∷ ‵ (R-u64 .own h6 (u6 ∷ [])) ∷ ‵ (fobs γ4 (R-Watch .coded .code h4)) ∷ ‵ (fbor κ4 (Body (mem R-Watch) b4 o4 γ4)) ∷ ‵ (at-slice R-MasterWords (x3 h3) ((sliceVal (b3, o3) (length h3)) ∷ [])) ∷ ‵ (fobs γ2 (R-Servo .coded .code h2)) ∷ ‵ (fbor κ2 (Body (mem R-Servo) b2 o2 γ2)) ∷ ‵ (froom (tyRef erased mut (pointee (R-u8x128 .written))) l61 0) ∷ ‵ (fdies (tyRef erased mut (pointee (R-u8x128 .written))) l61) ∷ ‵ (froom (tyRef erased mut (pointee (R-i32x128 .written))) l60 0) ∷ ‵ (fdies (tyRef erased mut (pointee (R-i32x128 .written))) l60) ∷ ‵ (froom (tyRef erased mut (pointee (R-i64x128 .written))) l59 0) ∷ ‵ (fdies (tyRef erased mut (pointee (R-i64x128 .written))) l59) ∷ ‵ (froom MHead′.mir l58 0) ∷ ‵ (fdies MHead′.mir l58) ∷ ‵ (froom MAnswerWords′.mir l57 0) ∷ ‵ (fdies MAnswerWords′.mir l57) ∷ ‵ (froom MAnswerWords′.mir l56 0) ∷ ‵ (fdies MAnswerWords′.mir l56) ∷ ‵ (froom (tyRef erased mut (pointee (R-u8x128 .written))) l55 0) ∷ ‵ (fdies (tyRef erased mut (pointee (R-u8x128 .written))) l55) ∷ ‵ (froom (tyRef erased mut (pointee (R-i32x128 .written))) l54 0) ∷ ‵ (fdies (tyRef erased mut (pointee (R-i32x128 .written))) l54) ∷ ‵ (froom (tyRef erased mut (pointee (R-i64x128 .written))) l53 0) ∷ ‵ (fdies (tyRef erased mut (pointee (R-i64x128 .written))) l53) ∷ ‵ (froom MHead′.mir l52 0) ∷ ‵ (fdies MHead′.mir l52) ∷ ‵ (froom tyPtr l51 0) ∷ ‵ (fdies tyPtr l51) ∷ ‵ (froom tyPtr l50 0) ∷ ‵ (fdies tyPtr l50) ∷ ‵ (froom (tyInt w64) l49 0) ∷ ‵ (fdies (tyInt w64) l49) ∷ ‵ (froom MAnswerWords′.mir l48 0) ∷ ‵ (fdies MAnswerWords′.mir l48) ∷ ‵ (froom tyBool l47 0) ∷ ‵ (fdies tyBool l47) ∷ ‵ (froom tyPtr l46 0) ∷ ‵ (fdies tyPtr l46) ∷ ‵ (froom tyPtr l45 0) ∷ ‵ (fdies tyPtr l45) ∷ ‵ (froom tyPtr l44 0) ∷ ‵ (fdies tyPtr l44) ∷ ‵ (froom tyPtr l43 0) ∷ ‵ (fdies tyPtr l43) ∷ ‵ (froom MMasterWords′.mir l42 0) ∷ ‵ (fdies MMasterWords′.mir l42) ∷ ‵ (froom tyPtr l41 0) ∷ ‵ (fdies tyPtr l41) ∷ ‵ (froom MAnswerWords′.mir l40 0) ∷ ‵ (fdies MAnswerWords′.mir l40) ∷ ‵ (froom (tyInt w64) l39 0) ∷ ‵ (fdies (tyInt w64) l39) ∷ ‵ (froom MAnswerWords′.mir l38 0) ∷ ‵ (fdies MAnswerWords′.mir l38) ∷ ‵ (froom tyBool l37 0) ∷ ‵ (fdies tyBool l37) ∷ ‵ (froom (sliceTy (tyRef erased mut (tyInt w8))) l36 0) ∷ ‵ (fdies (sliceTy (tyRef erased mut (tyInt w8))) l36) ∷ ‵ (froom (tyRef erased mut (tyInt w8)) l35 0) ∷ ‵ (fdies (tyRef erased mut (tyInt w8)) l35) ∷ ‵ (froom tyBool l34 0) ∷ ‵ (fdies tyBool l34) ∷ ‵ (froom MServo′.mir l33 0) ∷ ‵ (fdies MServo′.mir l33) ∷ ‵ (froom MServo′.mir l32 0) ∷ ‵ (fdies MServo′.mir l32) ∷ ‵ (froom tyBool l31 0) ∷ ‵ (fdies tyBool l31) ∷ ‵ (froom MTold′.mir l30 0) ∷ ‵ (fdies MTold′.mir l30) ∷ ‵ (froom MDelaysWords′.mir l29 0) ∷ ‵ (fdies MDelaysWords′.mir l29) ∷ ‵ (froom MHalvesWords′.mir l28 0) ∷ ‵ (fdies MHalvesWords′.mir l28) ∷ ‵ (froom MEmptied′.mir l27 0) ∷ ‵ (fdies MEmptied′.mir l27) ∷ ‵ (froom tyBool l26 0) ∷ ‵ (fdies tyBool l26) ∷ ‵ (fat fullShare MHeld′.mir l25 0 (vstruct (ofList ((parts-Held p-75 w-74 is-77) .pu0 ∷ (parts-Held p-75 w-74 is-77) .pu1 ∷ (parts-Held p-75 w-74 is-77) .pu2 ∷ [])))) ∷ ‵ (fdies MHeld′.mir l25) ∷ ‵ (froom MMasterWords′.mir l24 0) ∷ ‵ (fdies MMasterWords′.mir l24) ∷ ‵ (froom (tyInt w64) l23 0) ∷ ‵ (fdies (tyInt w64) l23) ∷ ‵ (froom tyBool l22 0) ∷ ‵ (fdies tyBool l22) ∷ ‵ (froom MSeat′.mir l21 0) ∷ ‵ (fdies MSeat′.mir l21) ∷ ‵ (froom MLooked′.mir l20 0) ∷ ‵ (fdies MLooked′.mir l20) ∷ ‵ (froom MLooked′.mir l19 0) ∷ ‵ (fdies MLooked′.mir l19) ∷ ‵ (froom MLooked′.mir l18 0) ∷ ‵ (fdies MLooked′.mir l18) ∷ ‵ (froom MLooked′.mir l17 0) ∷ ‵ (fdies MLooked′.mir l17) ∷ ‵ (froom MLooked′.mir l16 0) ∷ ‵ (fdies MLooked′.mir l16) ∷ ‵ (froom (tyInt w32) l15 0) ∷ ‵ (fdies (tyInt w32) l15) ∷ ‵ (froom tyBool l14 0) ∷ ‵ (fdies tyBool l14) ∷ ‵ (froom MStateWords′.mir l13 0) ∷ ‵ (fdies MStateWords′.mir l13) ∷ ‵ (fat fullShare MSettingsWords′.mir l12 0 u-24) ∷ ‵ (fdies MSettingsWords′.mir l12) ∷ ‵ (froom MMessage′.mir l11 0) ∷ ‵ (fdies MMessage′.mir l11) ∷ ‵ (froom tyBool l10 0) ∷ ‵ (fdies tyBool l10) ∷ ‵ (froom MReceived′.mir l9 0) ∷ ‵ (fdies MReceived′.mir l9) ∷ ‵ (froom (tyRef (named 5) mut (pointee (R-AnswerWords .written))) l8 0) ∷ ‵ (fdies (tyRef (named 5) mut (pointee (R-AnswerWords .written))) l8) ∷ ‵ (froom MStamp′.mir l7 0) ∷ ‵ (fdies MStamp′.mir l7) ∷ ‵ (froom (tyInt w64) l6 0) ∷ ‵ (fdies (tyInt w64) l6) ∷ ‵ (froom (sliceTy (tyRef (named 4) mut (tyInt w8))) l5 0) ∷ ‵ (fdies (sliceTy (tyRef (named 4) mut (tyInt w8))) l5) ∷ ‵ (fat fullShare (tyRef (named 3) mut (pointee (R-Watch .written))) l4 0 (vptr b4 o4)) ∷ ‵ (fdies (tyRef (named 3) mut (pointee (R-Watch .written))) l4) ∷ ‵ (froom (sliceTy (tyRef (named 2) mut (pointee (R-MasterWords .written)))) l3 0) ∷ ‵ (fdies (sliceTy (tyRef (named 2) mut (pointee (R-MasterWords .written)))) l3) ∷ ‵ (fat fullShare (tyRef (named 1) mut (pointee (R-Servo .written))) l2 0 (vptr b2 o2)) ∷ ‵ (fdies (tyRef (named 1) mut (pointee (R-Servo .written))) l2) ∷ ‵ (fat fullShare (tyRef (named 0) mut (pointee (R-UnitWords .written))) l1 0 (vptr b1 o1)) ∷ ‵ (fdies (tyRef (named 0) mut (pointee (R-UnitWords .written))) l1) ∷ ‵ (froom tyUnit l0 0) ∷ ‵ (fdies tyUnit l0) ∷ []) (runs C Λ En i-15-32 qq)
+      from-15-32 : (qq : Kit-Post 𝓤 H) (ee : post 𝓤 H qq returnsᴼ ≡ atReturn 𝓤 H En Post returnsᴼ) (zs-8 : List ℕ) (len-9 : length zs-8 ≡ length h5) (p-4 : SReceived.Received) (w-3 : Val) (e-6 : (p-4 ≡ receivedBy (readOf h5)) × (zs-8 ≡ h5)) (is-7 : Is R-Received p-4 (w-3 ∷ [])) (left1 : Holds (not (p-4 .barred))) (good : Holds (not (not (eqb (length h3) 5)))) (u-24 : Val) (g-25 : Is R-SettingsWords (h1 .settings) (u-24 ∷ [])) (u-28 : Val) (g-29 : Is R-StateWords (h1 .state) (u-28 ∷ [])) (held2 : Holds (p-4 .announces)) (p-31 : ℕ) (w-30 : Val) (e-32 : p-31 ≡ intervalOf ((h1 .settings) .announce)) (is-33 : Is R-u32 p-31 (w-30 ∷ [])) (g-34 : Is R-MasterWords (el 0) (v-MasterWords (el 0))) (p-36 : SLooked.Looked) (w-35 : Val) (e-37 : p-36 ≡ lookedOf (p-4 .message) h6 p-31 (recordIn (el 0))) (is-38 : Is R-Looked p-36 (w-35 ∷ [])) (g-39 : Is R-MasterWords (el 1) (v-MasterWords (el 1))) (p-41 : SLooked.Looked) (w-40 : Val) (e-42 : p-41 ≡ lookedOf (p-4 .message) h6 p-31 (recordIn (el 1))) (is-43 : Is R-Looked p-41 (w-40 ∷ [])) (g-44 : Is R-MasterWords (el 2) (v-MasterWords (el 2))) (p-46 : SLooked.Looked) (w-45 : Val) (e-47 : p-46 ≡ lookedOf (p-4 .message) h6 p-31 (recordIn (el 2))) (is-48 : Is R-Looked p-46 (w-45 ∷ [])) (g-49 : Is R-MasterWords (el 3) (v-MasterWords (el 3))) (p-51 : SLooked.Looked) (w-50 : Val) (e-52 : p-51 ≡ lookedOf (p-4 .message) h6 p-31 (recordIn (el 3))) (is-53 : Is R-Looked p-51 (w-50 ∷ [])) (g-54 : Is R-MasterWords (el 4) (v-MasterWords (el 4))) (p-56 : SLooked.Looked) (w-55 : Val) (e-57 : p-56 ≡ lookedOf (p-4 .message) h6 p-31 (recordIn (el 4))) (is-58 : Is R-Looked p-56 (w-55 ∷ [])) (p-60 : SSeat.Seat) (w-59 : Val) (e-61 : p-60 ≡ seatBy (h1 .settings) (h1 .state) (p-4 .message) h6 (p-36 .standing) (p-41 .standing) (p-46 .standing) (p-51 .standing) (p-56 .standing)) (is-62 : Is R-Seat p-60 (w-59 ∷ [])) (left3 : Holds (not (p-60 .barred))) (g-69 : Is R-MasterWords (el (p-60 .at)) (v-MasterWords (el (p-60 .at)))) (p-71 : SMasterWords.MasterWords) (w-70 : Val) (e-72 : p-71 ≡ placedOf (el (p-60 .at)) (p-4 .message) (p-60 .known) h6) (is-73 : Is R-MasterWords p-71 (w-70 ∷ [])) (p-75 : SHeld.Held) (w-74 : Val) (e-76 : p-75 ≡ heldOf (h1 .state) h6 (bestWith (p-60 .at) (candidateOf h6 p-31 (recordIn p-71)) (p-36 .candidate) (p-41 .candidate) (p-46 .candidate) (p-51 .candidate) (p-56 .candidate))) (is-77 : Is R-Held p-75 (w-74 ∷ [])) → Sq W (‵ (fobs γ1 (R-UnitWords .coded .code (with-UnitWords-1 h1 (p-75 .state)))) ∷ ‵ (fbor κ1 (Body (mem R-UnitWords) b1 o1 γ1)) ∷ ‵ (flft κ1 q1) ∷ ‵ (fobs γ8 (R-AnswerWords .coded .code (p-75 .answer))) ∷ ‵ (fbor κ8 (Body (mem R-AnswerWords) b8 o8 γ8)) ∷ ‵ (flft κ8 q8) ∷ ‵ (fobs γ3 (codedHoleys R-MasterWords .code (heres R-MasterWords (set h3 (p-60 .at) p-71)))) ∷ ‵ (fbor κ3 (Held R-MasterWords (length (set h3 (p-60 .at) p-71)) b3 o3 γ3)) ∷ ‵ (flft κ3 q3) ∷ ‵ (MutSlice (named 4) κ5 R-u8 .own (x5 zs-8) ((sliceVal (b5, o5) (length h5)) ∷ [])) ∷ ‵ (flft κ5 q5) ∷ ‵ (flft κ4 q4) ∷ ‵ (flft κ2 q2) ∷ ‵ (ftrue) ∷ ‵ (R-Stamp .own h7 (u7 ∷ [])) ∷ ‵ (R-u64 .own h6 (u6 ∷ [])) ∷ ‵ (fobs γ4 (R-Watch .coded .code h4)) ∷ ‵ (fbor κ4 (Body (mem R-Watch) b4 o4 γ4)) ∷ ‵ (at-slice R-MasterWords (x3 h3) ((sliceVal (b3, o3) (length h3)) ∷ [])) ∷ ‵ (fobs γ2 (R-Servo .coded .code h2)) ∷ ‵ (fbor κ2 (Body (mem R-Servo) b2 o2 γ2)) ∷ ‵ (froom (tyRef erased mut (pointee (R-u8x128 .written))) l65 0) ∷ ‵ (fdies (tyRef erased mut (pointee (R-u8x128 .written))) l65) ∷ ‵ (froom (tyRef erased mut (pointee (R-i32x128 .written))) l64 0) ∷ ‵ (fdies (tyRef erased mut (pointee (R-i32x128 .written))) l64) ∷ ‵ (froom (tyRef erased mut (pointee (R-i64x128 .written))) l63 0) ∷ ‵ (fdies (tyRef erased mut (pointee (R-i64x128 .written))) l63) ∷ ‵ (froom MHead′.mir l62 0) ∷ ‵ (fdies MHead′.mir l62) ∷ ‵ (froom MAnswerWords′.mir l61 0) ∷ ‵ (fdies MAnswerWords′.mir l61) ∷ ‵ (froom MAnswerWords′.mir l60 0) ∷ ‵ (fdies MAnswerWords′.mir l60) ∷ ‵ (froom (tyRef erased mut (pointee (R-u8x128 .written))) l59 0) ∷ ‵ (fdies (tyRef erased mut (pointee (R-u8x128 .written))) l59) ∷ ‵ (froom (tyRef erased mut (pointee (R-i32x128 .written))) l58 0) ∷ ‵ (fdies (tyRef erased mut (pointee (R-i32x128 .written))) l58) ∷ ‵ (froom (tyRef erased mut (pointee (R-i64x128 .written))) l57 0) ∷ ‵ (fdies (tyRef erased mut (pointee (R-i64x128 .written))) l57) ∷ ‵ (froom MHead′.mir l56 0) ∷ ‵ (fdies MHead′.mir l56) ∷ ‵ (froom tyPtr l55 0) ∷ ‵ (fdies tyPtr l55) ∷ ‵ (froom tyPtr l54 0) ∷ ‵ (fdies tyPtr l54) ∷ ‵ (froom (tyInt w64) l53 0) ∷ ‵ (fdies (tyInt w64) l53) ∷ ‵ (froom MAnswerWords′.mir l52 0) ∷ ‵ (fdies MAnswerWords′.mir l52) ∷ ‵ (froom tyBool l51 0) ∷ ‵ (fdies tyBool l51) ∷ ‵ (froom tyPtr l50 0) ∷ ‵ (fdies tyPtr l50) ∷ ‵ (froom tyPtr l49 0) ∷ ‵ (fdies tyPtr l49) ∷ ‵ (froom tyPtr l48 0) ∷ ‵ (fdies tyPtr l48) ∷ ‵ (froom tyPtr l47 0) ∷ ‵ (fdies tyPtr l47) ∷ ‵ (froom MMasterWords′.mir l46 0) ∷ ‵ (fdies MMasterWords′.mir l46) ∷ ‵ (froom tyPtr l45 0) ∷ ‵ (fdies tyPtr l45) ∷ ‵ (froom MAnswerWords′.mir l44 0) ∷ ‵ (fdies MAnswerWords′.mir l44) ∷ ‵ (froom (tyInt w64) l43 0) ∷ ‵ (fdies (tyInt w64) l43) ∷ ‵ (froom MAnswerWords′.mir l42 0) ∷ ‵ (fdies MAnswerWords′.mir l42) ∷ ‵ (froom tyBool l41 0) ∷ ‵ (fdies tyBool l41) ∷ ‵ (froom (sliceTy (tyRef erased mut (tyInt w8))) l40 0) ∷ ‵ (fdies (sliceTy (tyRef erased mut (tyInt w8))) l40) ∷ ‵ (froom (tyRef erased mut (tyInt w8)) l39 0) ∷ ‵ (fdies (tyRef erased mut (tyInt w8)) l39) ∷ ‵ (froom (tyInt w16) l38 0) ∷ ‵ (fdies (tyInt w16) l38) ∷ ‵ (froom (tyInt w8) l37 0) ∷ ‵ (fdies (tyInt w8) l37) ∷ ‵ (froom MServo′.mir l36 0) ∷ ‵ (fdies MServo′.mir l36) ∷ ‵ (froom tyBool l35 0) ∷ ‵ (fdies tyBool l35) ∷ ‵ (froom tyBool l34 0) ∷ ‵ (fdies tyBool l34) ∷ ‵ (froom MAccepted′.mir l33 0) ∷ ‵ (fdies MAccepted′.mir l33) ∷ ‵ (froom MServo′.mir l32 0) ∷ ‵ (fdies MServo′.mir l32) ∷ ‵ (froom tyBool l31 0) ∷ ‵ (fdies tyBool l31) ∷ ‵ (froom MTold′.mir l30 0) ∷ ‵ (fdies MTold′.mir l30) ∷ ‵ (froom MDelaysWords′.mir l29 0) ∷ ‵ (fdies MDelaysWords′.mir l29) ∷ ‵ (froom MHalvesWords′.mir l28 0) ∷ ‵ (fdies MHalvesWords′.mir l28) ∷ ‵ (froom MEmptied′.mir l27 0) ∷ ‵ (fdies MEmptied′.mir l27) ∷ ‵ (froom tyBool l26 0) ∷ ‵ (fdies tyBool l26) ∷ ‵ (fat fullShare MHeld′.mir l25 0 (vstruct (ofList ((parts-Held p-75 w-74 is-77) .pu0 ∷ (parts-Held p-75 w-74 is-77) .pu1 ∷ (parts-Held p-75 w-74 is-77) .pu2 ∷ [])))) ∷ ‵ (fdies MHeld′.mir l25) ∷ ‵ (froom MMasterWords′.mir l24 0) ∷ ‵ (fdies MMasterWords′.mir l24) ∷ ‵ (froom (tyInt w64) l23 0) ∷ ‵ (fdies (tyInt w64) l23) ∷ ‵ (froom tyBool l22 0) ∷ ‵ (fdies tyBool l22) ∷ ‵ (froom MSeat′.mir l21 0) ∷ ‵ (fdies MSeat′.mir l21) ∷ ‵ (froom MLooked′.mir l20 0) ∷ ‵ (fdies MLooked′.mir l20) ∷ ‵ (froom MLooked′.mir l19 0) ∷ ‵ (fdies MLooked′.mir l19) ∷ ‵ (froom MLooked′.mir l18 0) ∷ ‵ (fdies MLooked′.mir l18) ∷ ‵ (froom MLooked′.mir l17 0) ∷ ‵ (fdies MLooked′.mir l17) ∷ ‵ (froom MLooked′.mir l16 0) ∷ ‵ (fdies MLooked′.mir l16) ∷ ‵ (froom (tyInt w32) l15 0) ∷ ‵ (fdies (tyInt w32) l15) ∷ ‵ (froom tyBool l14 0) ∷ ‵ (fdies tyBool l14) ∷ ‵ (froom MStateWords′.mir l13 0) ∷ ‵ (fdies MStateWords′.mir l13) ∷ ‵ (fat fullShare MSettingsWords′.mir l12 0 u-24) ∷ ‵ (fdies MSettingsWords′.mir l12) ∷ ‵ (froom MMessage′.mir l11 0) ∷ ‵ (fdies MMessage′.mir l11) ∷ ‵ (froom tyBool l10 0) ∷ ‵ (fdies tyBool l10) ∷ ‵ (froom MReceived′.mir l9 0) ∷ ‵ (fdies MReceived′.mir l9) ∷ ‵ (froom (tyRef (named 5) mut (pointee (R-AnswerWords .written))) l8 0) ∷ ‵ (fdies (tyRef (named 5) mut (pointee (R-AnswerWords .written))) l8) ∷ ‵ (froom MStamp′.mir l7 0) ∷ ‵ (fdies MStamp′.mir l7) ∷ ‵ (froom (tyInt w64) l6 0) ∷ ‵ (fdies (tyInt w64) l6) ∷ ‵ (froom (sliceTy (tyRef (named 4) mut (tyInt w8))) l5 0) ∷ ‵ (fdies (sliceTy (tyRef (named 4) mut (tyInt w8))) l5) ∷ ‵ (fat fullShare (tyRef (named 3) mut (pointee (R-Watch .written))) l4 0 (vptr b4 o4)) ∷ ‵ (fdies (tyRef (named 3) mut (pointee (R-Watch .written))) l4) ∷ ‵ (froom (sliceTy (tyRef (named 2) mut (pointee (R-MasterWords .written)))) l3 0) ∷ ‵ (fdies (sliceTy (tyRef (named 2) mut (pointee (R-MasterWords .written)))) l3) ∷ ‵ (fat fullShare (tyRef (named 1) mut (pointee (R-Servo .written))) l2 0 (vptr b2 o2)) ∷ ‵ (fdies (tyRef (named 1) mut (pointee (R-Servo .written))) l2) ∷ ‵ (fat fullShare (tyRef (named 0) mut (pointee (R-UnitWords .written))) l1 0 (vptr b1 o1)) ∷ ‵ (fdies (tyRef (named 0) mut (pointee (R-UnitWords .written))) l1) ∷ ‵ (froom tyUnit l0 0) ∷ ‵ (fdies tyUnit l0) ∷ []) (runs C Λ En i-15-32 qq)
       from-15-32 qq ee zs-8 len-9 p-4 w-3 e-6 is-7 left1 good u-24 g-25 u-28 g-29 held2 p-31 w-30 e-32 is-33 g-34 p-36 w-35 e-37 is-38 g-39 p-41 w-40 e-42 is-43 g-44 p-46 w-45 e-47 is-48 g-49 p-51 w-50 e-52 is-53 g-54 p-56 w-55 e-57 is-58 p-60 w-59 e-61 is-62 left3 g-69 p-71 w-70 e-72 is-73 p-75 w-74 e-76 is-77 =
-          assigns ! (of-opd ! (load ! (from ! (fld ! {τ = tyBool} {d = off-Held-2} field-Held-2 (stop !))) (look-in ! 93 (sub ! {ν = name-of MHeld′.mir} {τs = tys-of MHeld′.mir} 2 {τ = tyBool} {d = off-Held-2} field-Held-2 (whole !))))) (from ! (stop !)) (init ! 91 refl (lawful-bool 𝓤 H A W .typed (p-75 .wipes) _ ((parts-Held p-75 w-74 is-77) .pg2) .0)) $
-          assigns ! (of-opd ! (load ! (from ! (stop !)) (look ! 91 refl))) (from ! (stop !)) (init ! 49 refl (lawful-bool 𝓤 H A W .typed (p-75 .wipes) _ ((parts-Held p-75 w-74 is-77) .pg2) .0)) $
-          rewrite ! 49 (λ (u : Val). ‵ (fat fullShare tyBool l47 0 u)) (ap only (tells-bool (p-75 .wipes) (((parts-Held p-75 w-74 is-77) .pu2) ∷ []) ((parts-Held p-75 w-74 is-77) .pg2))) refl $
+          assigns ! (of-opd ! (load ! (from ! (fld ! {τ = tyBool} {d = off-Held-2} field-Held-2 (stop !))) (look-in ! 101 (sub ! {ν = name-of MHeld′.mir} {τs = tys-of MHeld′.mir} 2 {τ = tyBool} {d = off-Held-2} field-Held-2 (whole !))))) (from ! (stop !)) (init ! 99 refl (lawful-bool 𝓤 H A W .typed (p-75 .wipes) _ ((parts-Held p-75 w-74 is-77) .pg2) .0)) $
+          assigns ! (of-opd ! (load ! (from ! (stop !)) (look ! 99 refl))) (from ! (stop !)) (init ! 49 refl (lawful-bool 𝓤 H A W .typed (p-75 .wipes) _ ((parts-Held p-75 w-74 is-77) .pg2) .0)) $
+          rewrite ! 49 (λ (u : Val). ‵ (fat fullShare tyBool l51 0 u)) (ap only (tells-bool (p-75 .wipes) (((parts-Held p-75 w-74 is-77) .pu2) ∷ []) ((parts-Held p-75 w-74 is-77) .pg2))) refl $
           first ! $ branches ! (load ! (from ! (stop !)) (look ! 49 refl))
-          (λ held4. forget ! 93 refl $ forget ! 91 refl $ forget ! 49 refl $ from-15-34-1 _ ee zs-8 len-9 p-4 w-3 e-6 is-7 left1 good u-24 g-25 u-28 g-29 held2 p-31 w-30 e-32 is-33 g-34 p-36 w-35 e-37 is-38 g-39 p-41 w-40 e-42 is-43 g-44 p-46 w-45 e-47 is-48 g-49 p-51 w-50 e-52 is-53 g-54 p-56 w-55 e-57 is-58 p-60 w-59 e-61 is-62 left3 g-69 p-71 w-70 e-72 is-73 p-75 w-74 e-76 is-77 held4)
+          (λ held4. forget ! 101 refl $ forget ! 99 refl $ forget ! 49 refl $ from-15-34-1 _ ee zs-8 len-9 p-4 w-3 e-6 is-7 left1 good u-24 g-25 u-28 g-29 held2 p-31 w-30 e-32 is-33 g-34 p-36 w-35 e-37 is-38 g-39 p-41 w-40 e-42 is-43 g-44 p-46 w-45 e-47 is-48 g-49 p-51 w-50 e-52 is-53 g-54 p-56 w-55 e-57 is-58 p-60 w-59 e-61 is-62 left3 g-69 p-71 w-70 e-72 is-73 p-75 w-74 e-76 is-77 held4)
           (λ left4. skips ! $ exec ! C Λ En i-15-35 qq $
-          forget ! 141 refl $ forget ! 139 refl $ forget ! 135 refl $ forget ! 119 refl $ forget ! 93 refl $ forget ! 91 refl $ forget ! 49 refl $
+          forget ! 149 refl $ forget ! 147 refl $ forget ! 143 refl $ forget ! 127 refl $ forget ! 101 refl $ forget ! 99 refl $ forget ! 49 refl $
           from-15-35 qq ee zs-8 len-9 p-4 w-3 e-6 is-7 left1 good u-24 g-25 u-28 g-29 held2 p-31 w-30 e-32 is-33 g-34 p-36 w-35 e-37 is-38 g-39 p-41 w-40 e-42 is-43 g-44 p-46 w-45 e-47 is-48 g-49 p-51 w-50 e-52 is-53 g-54 p-56 w-55 e-57 is-58 p-60 w-59 e-61 is-62 left3 g-69 p-71 w-70 e-72 is-73 p-75 w-74 e-76 is-77 left4)
 
-      from-15-31 : (qq : Kit-Post 𝓤 H) (ee : post 𝓤 H qq returnsᴼ ≡ atReturn 𝓤 H En Post returnsᴼ) (zs-8 : List ℕ) (len-9 : length zs-8 ≡ length h5) (p-4 : SReceived.Received) (w-3 : Val) (e-6 : (p-4 ≡ receivedBy (readOf h5)) × (zs-8 ≡ h5)) (is-7 : Is R-Received p-4 (w-3 ∷ [])) (left1 : Holds (not (p-4 .barred))) (good : Holds (not (not (eqb (length h3) 5)))) (u-24 : Val) (g-25 : Is R-SettingsWords (h1 .settings) (u-24 ∷ [])) (u-28 : Val) (g-29 : Is R-StateWords (h1 .state) (u-28 ∷ [])) (held2 : Holds (p-4 .announces)) (p-31 : ℕ) (w-30 : Val) (e-32 : p-31 ≡ intervalOf ((h1 .settings) .announce)) (is-33 : Is R-u32 p-31 (w-30 ∷ [])) (g-34 : Is R-MasterWords (el 0) (v-MasterWords (el 0))) (p-36 : SLooked.Looked) (w-35 : Val) (e-37 : p-36 ≡ lookedOf (p-4 .message) h6 p-31 (recordIn (el 0))) (is-38 : Is R-Looked p-36 (w-35 ∷ [])) (g-39 : Is R-MasterWords (el 1) (v-MasterWords (el 1))) (p-41 : SLooked.Looked) (w-40 : Val) (e-42 : p-41 ≡ lookedOf (p-4 .message) h6 p-31 (recordIn (el 1))) (is-43 : Is R-Looked p-41 (w-40 ∷ [])) (g-44 : Is R-MasterWords (el 2) (v-MasterWords (el 2))) (p-46 : SLooked.Looked) (w-45 : Val) (e-47 : p-46 ≡ lookedOf (p-4 .message) h6 p-31 (recordIn (el 2))) (is-48 : Is R-Looked p-46 (w-45 ∷ [])) (g-49 : Is R-MasterWords (el 3) (v-MasterWords (el 3))) (p-51 : SLooked.Looked) (w-50 : Val) (e-52 : p-51 ≡ lookedOf (p-4 .message) h6 p-31 (recordIn (el 3))) (is-53 : Is R-Looked p-51 (w-50 ∷ [])) (g-54 : Is R-MasterWords (el 4) (v-MasterWords (el 4))) (p-56 : SLooked.Looked) (w-55 : Val) (e-57 : p-56 ≡ lookedOf (p-4 .message) h6 p-31 (recordIn (el 4))) (is-58 : Is R-Looked p-56 (w-55 ∷ [])) (p-60 : SSeat.Seat) (w-59 : Val) (e-61 : p-60 ≡ seatBy (h1 .settings) (h1 .state) (p-4 .message) h6 (p-36 .standing) (p-41 .standing) (p-46 .standing) (p-51 .standing) (p-56 .standing)) (is-62 : Is R-Seat p-60 (w-59 ∷ [])) (left3 : Holds (not (p-60 .barred))) (g-69 : Is R-MasterWords (el (p-60 .at)) (v-MasterWords (el (p-60 .at)))) (p-71 : SMasterWords.MasterWords) (w-70 : Val) (e-72 : p-71 ≡ placedOf (el (p-60 .at)) (p-4 .message) (p-60 .known) h6) (is-73 : Is R-MasterWords p-71 (w-70 ∷ [])) (p-75 : SHeld.Held) (w-74 : Val) (e-76 : p-75 ≡ heldOf (h1 .state) h6 (bestWith (p-60 .at) (candidateOf h6 p-31 (recordIn p-71)) (p-36 .candidate) (p-41 .candidate) (p-46 .candidate) (p-51 .candidate) (p-56 .candidate))) (is-77 : Is R-Held p-75 (w-74 ∷ [])) → Sq W (‵ (fobs γ8 (R-AnswerWords .coded .code (p-75 .answer))) ∷ ‵ (fbor κ8 (Body (mem R-AnswerWords) b8 o8 γ8)) ∷ ‵ (flft κ8 q8) ∷ ‵ (fobs γ3 (codedHoleys R-MasterWords .code (heres R-MasterWords (set h3 (p-60 .at) p-71)))) ∷ ‵ (fbor κ3 (Held R-MasterWords (length (set h3 (p-60 .at) p-71)) b3 o3 γ3)) ∷ ‵ (flft κ3 q3) ∷ ‵ (fobs γ1 (R-UnitWords .coded .code h1)) ∷ ‵ (fbor κ1 (Body (mem R-UnitWords) b1 o1 γ1)) ∷ ‵ (flft κ1 q1) ∷ ‵ (MutSlice (named 4) κ5 R-u8 .own (x5 zs-8) ((sliceVal (b5, o5) (length h5)) ∷ [])) ∷ ‵ (flft κ5 q5) ∷ ‵ (flft κ4 q4) ∷ ‵ (flft κ2 q2) ∷ ‵ (ftrue) ∷ ‵ (R-Stamp .own h7 (u7 ∷ [])) ∷ ‵ (R-u64 .own h6 (u6 ∷ [])) ∷ ‵ (fobs γ4 (R-Watch .coded .code h4)) ∷ ‵ (fbor κ4 (Body (mem R-Watch) b4 o4 γ4)) ∷ ‵ (at-slice R-MasterWords (x3 h3) ((sliceVal (b3, o3) (length h3)) ∷ [])) ∷ ‵ (fobs γ2 (R-Servo .coded .code h2)) ∷ ‵ (fbor κ2 (Body (mem R-Servo) b2 o2 γ2)) ∷ ‵ (froom (tyRef erased mut (pointee (R-u8x128 .written))) l61 0) ∷ ‵ (fdies (tyRef erased mut (pointee (R-u8x128 .written))) l61) ∷ ‵ (froom (tyRef erased mut (pointee (R-i32x128 .written))) l60 0) ∷ ‵ (fdies (tyRef erased mut (pointee (R-i32x128 .written))) l60) ∷ ‵ (froom (tyRef erased mut (pointee (R-i64x128 .written))) l59 0) ∷ ‵ (fdies (tyRef erased mut (pointee (R-i64x128 .written))) l59) ∷ ‵ (froom MHead′.mir l58 0) ∷ ‵ (fdies MHead′.mir l58) ∷ ‵ (froom MAnswerWords′.mir l57 0) ∷ ‵ (fdies MAnswerWords′.mir l57) ∷ ‵ (froom MAnswerWords′.mir l56 0) ∷ ‵ (fdies MAnswerWords′.mir l56) ∷ ‵ (froom (tyRef erased mut (pointee (R-u8x128 .written))) l55 0) ∷ ‵ (fdies (tyRef erased mut (pointee (R-u8x128 .written))) l55) ∷ ‵ (froom (tyRef erased mut (pointee (R-i32x128 .written))) l54 0) ∷ ‵ (fdies (tyRef erased mut (pointee (R-i32x128 .written))) l54) ∷ ‵ (froom (tyRef erased mut (pointee (R-i64x128 .written))) l53 0) ∷ ‵ (fdies (tyRef erased mut (pointee (R-i64x128 .written))) l53) ∷ ‵ (froom MHead′.mir l52 0) ∷ ‵ (fdies MHead′.mir l52) ∷ ‵ (froom tyPtr l51 0) ∷ ‵ (fdies tyPtr l51) ∷ ‵ (froom tyPtr l50 0) ∷ ‵ (fdies tyPtr l50) ∷ ‵ (froom (tyInt w64) l49 0) ∷ ‵ (fdies (tyInt w64) l49) ∷ ‵ (froom MAnswerWords′.mir l48 0) ∷ ‵ (fdies MAnswerWords′.mir l48) ∷ ‵ (froom tyBool l47 0) ∷ ‵ (fdies tyBool l47) ∷ ‵ (froom tyPtr l46 0) ∷ ‵ (fdies tyPtr l46) ∷ ‵ (froom tyPtr l45 0) ∷ ‵ (fdies tyPtr l45) ∷ ‵ (froom tyPtr l44 0) ∷ ‵ (fdies tyPtr l44) ∷ ‵ (froom tyPtr l43 0) ∷ ‵ (fdies tyPtr l43) ∷ ‵ (froom MMasterWords′.mir l42 0) ∷ ‵ (fdies MMasterWords′.mir l42) ∷ ‵ (froom tyPtr l41 0) ∷ ‵ (fdies tyPtr l41) ∷ ‵ (froom MAnswerWords′.mir l40 0) ∷ ‵ (fdies MAnswerWords′.mir l40) ∷ ‵ (froom (tyInt w64) l39 0) ∷ ‵ (fdies (tyInt w64) l39) ∷ ‵ (froom MAnswerWords′.mir l38 0) ∷ ‵ (fdies MAnswerWords′.mir l38) ∷ ‵ (froom tyBool l37 0) ∷ ‵ (fdies tyBool l37) ∷ ‵ (froom (sliceTy (tyRef erased mut (tyInt w8))) l36 0) ∷ ‵ (fdies (sliceTy (tyRef erased mut (tyInt w8))) l36) ∷ ‵ (froom (tyRef erased mut (tyInt w8)) l35 0) ∷ ‵ (fdies (tyRef erased mut (tyInt w8)) l35) ∷ ‵ (froom tyBool l34 0) ∷ ‵ (fdies tyBool l34) ∷ ‵ (froom MServo′.mir l33 0) ∷ ‵ (fdies MServo′.mir l33) ∷ ‵ (froom MServo′.mir l32 0) ∷ ‵ (fdies MServo′.mir l32) ∷ ‵ (froom tyBool l31 0) ∷ ‵ (fdies tyBool l31) ∷ ‵ (froom MTold′.mir l30 0) ∷ ‵ (fdies MTold′.mir l30) ∷ ‵ (froom MDelaysWords′.mir l29 0) ∷ ‵ (fdies MDelaysWords′.mir l29) ∷ ‵ (froom MHalvesWords′.mir l28 0) ∷ ‵ (fdies MHalvesWords′.mir l28) ∷ ‵ (froom MEmptied′.mir l27 0) ∷ ‵ (fdies MEmptied′.mir l27) ∷ ‵ (froom tyBool l26 0) ∷ ‵ (fdies tyBool l26) ∷ ‵ (fat fullShare MHeld′.mir l25 0 (vstruct (ofList ((parts-Held p-75 w-74 is-77) .pu0 ∷ (parts-Held p-75 w-74 is-77) .pu1 ∷ (parts-Held p-75 w-74 is-77) .pu2 ∷ [])))) ∷ ‵ (fdies MHeld′.mir l25) ∷ ‵ (froom MMasterWords′.mir l24 0) ∷ ‵ (fdies MMasterWords′.mir l24) ∷ ‵ (froom (tyInt w64) l23 0) ∷ ‵ (fdies (tyInt w64) l23) ∷ ‵ (froom tyBool l22 0) ∷ ‵ (fdies tyBool l22) ∷ ‵ (froom MSeat′.mir l21 0) ∷ ‵ (fdies MSeat′.mir l21) ∷ ‵ (froom MLooked′.mir l20 0) ∷ ‵ (fdies MLooked′.mir l20) ∷ ‵ (froom MLooked′.mir l19 0) ∷ ‵ (fdies MLooked′.mir l19) ∷ ‵ (froom MLooked′.mir l18 0) ∷ ‵ (fdies MLooked′.mir l18) ∷ ‵ (froom MLooked′.mir l17 0) ∷ ‵ (fdies MLooked′.mir l17) ∷ ‵ (froom MLooked′.mir l16 0) ∷ ‵ (fdies MLooked′.mir l16) ∷ ‵ (froom (tyInt w32) l15 0) ∷ ‵ (fdies (tyInt w32) l15) ∷ ‵ (froom tyBool l14 0) ∷ ‵ (fdies tyBool l14) ∷ ‵ (froom MStateWords′.mir l13 0) ∷ ‵ (fdies MStateWords′.mir l13) ∷ ‵ (fat fullShare MSettingsWords′.mir l12 0 u-24) ∷ ‵ (fdies MSettingsWords′.mir l12) ∷ ‵ (froom MMessage′.mir l11 0) ∷ ‵ (fdies MMessage′.mir l11) ∷ ‵ (froom tyBool l10 0) ∷ ‵ (fdies tyBool l10) ∷ ‵ (froom MReceived′.mir l9 0) ∷ ‵ (fdies MReceived′.mir l9) ∷ ‵ (froom (tyRef (named 5) mut (pointee (R-AnswerWords .written))) l8 0) ∷ ‵ (fdies (tyRef (named 5) mut (pointee (R-AnswerWords .written))) l8) ∷ ‵ (froom MStamp′.mir l7 0) ∷ ‵ (fdies MStamp′.mir l7) ∷ ‵ (froom (tyInt w64) l6 0) ∷ ‵ (fdies (tyInt w64) l6) ∷ ‵ (froom (sliceTy (tyRef (named 4) mut (tyInt w8))) l5 0) ∷ ‵ (fdies (sliceTy (tyRef (named 4) mut (tyInt w8))) l5) ∷ ‵ (fat fullShare (tyRef (named 3) mut (pointee (R-Watch .written))) l4 0 (vptr b4 o4)) ∷ ‵ (fdies (tyRef (named 3) mut (pointee (R-Watch .written))) l4) ∷ ‵ (froom (sliceTy (tyRef (named 2) mut (pointee (R-MasterWords .written)))) l3 0) ∷ ‵ (fdies (sliceTy (tyRef (named 2) mut (pointee (R-MasterWords .written)))) l3) ∷ ‵ (fat fullShare (tyRef (named 1) mut (pointee (R-Servo .written))) l2 0 (vptr b2 o2)) ∷ ‵ (fdies (tyRef (named 1) mut (pointee (R-Servo .written))) l2) ∷ ‵ (fat fullShare (tyRef (named 0) mut (pointee (R-UnitWords .written))) l1 0 (vptr b1 o1)) ∷ ‵ (fdies (tyRef (named 0) mut (pointee (R-UnitWords .written))) l1) ∷ ‵ (froom tyUnit l0 0) ∷ ‵ (fdies tyUnit l0) ∷ []) (runs C Λ En i-15-31 qq)
+      from-15-31 : (qq : Kit-Post 𝓤 H) (ee : post 𝓤 H qq returnsᴼ ≡ atReturn 𝓤 H En Post returnsᴼ) (zs-8 : List ℕ) (len-9 : length zs-8 ≡ length h5) (p-4 : SReceived.Received) (w-3 : Val) (e-6 : (p-4 ≡ receivedBy (readOf h5)) × (zs-8 ≡ h5)) (is-7 : Is R-Received p-4 (w-3 ∷ [])) (left1 : Holds (not (p-4 .barred))) (good : Holds (not (not (eqb (length h3) 5)))) (u-24 : Val) (g-25 : Is R-SettingsWords (h1 .settings) (u-24 ∷ [])) (u-28 : Val) (g-29 : Is R-StateWords (h1 .state) (u-28 ∷ [])) (held2 : Holds (p-4 .announces)) (p-31 : ℕ) (w-30 : Val) (e-32 : p-31 ≡ intervalOf ((h1 .settings) .announce)) (is-33 : Is R-u32 p-31 (w-30 ∷ [])) (g-34 : Is R-MasterWords (el 0) (v-MasterWords (el 0))) (p-36 : SLooked.Looked) (w-35 : Val) (e-37 : p-36 ≡ lookedOf (p-4 .message) h6 p-31 (recordIn (el 0))) (is-38 : Is R-Looked p-36 (w-35 ∷ [])) (g-39 : Is R-MasterWords (el 1) (v-MasterWords (el 1))) (p-41 : SLooked.Looked) (w-40 : Val) (e-42 : p-41 ≡ lookedOf (p-4 .message) h6 p-31 (recordIn (el 1))) (is-43 : Is R-Looked p-41 (w-40 ∷ [])) (g-44 : Is R-MasterWords (el 2) (v-MasterWords (el 2))) (p-46 : SLooked.Looked) (w-45 : Val) (e-47 : p-46 ≡ lookedOf (p-4 .message) h6 p-31 (recordIn (el 2))) (is-48 : Is R-Looked p-46 (w-45 ∷ [])) (g-49 : Is R-MasterWords (el 3) (v-MasterWords (el 3))) (p-51 : SLooked.Looked) (w-50 : Val) (e-52 : p-51 ≡ lookedOf (p-4 .message) h6 p-31 (recordIn (el 3))) (is-53 : Is R-Looked p-51 (w-50 ∷ [])) (g-54 : Is R-MasterWords (el 4) (v-MasterWords (el 4))) (p-56 : SLooked.Looked) (w-55 : Val) (e-57 : p-56 ≡ lookedOf (p-4 .message) h6 p-31 (recordIn (el 4))) (is-58 : Is R-Looked p-56 (w-55 ∷ [])) (p-60 : SSeat.Seat) (w-59 : Val) (e-61 : p-60 ≡ seatBy (h1 .settings) (h1 .state) (p-4 .message) h6 (p-36 .standing) (p-41 .standing) (p-46 .standing) (p-51 .standing) (p-56 .standing)) (is-62 : Is R-Seat p-60 (w-59 ∷ [])) (left3 : Holds (not (p-60 .barred))) (g-69 : Is R-MasterWords (el (p-60 .at)) (v-MasterWords (el (p-60 .at)))) (p-71 : SMasterWords.MasterWords) (w-70 : Val) (e-72 : p-71 ≡ placedOf (el (p-60 .at)) (p-4 .message) (p-60 .known) h6) (is-73 : Is R-MasterWords p-71 (w-70 ∷ [])) (p-75 : SHeld.Held) (w-74 : Val) (e-76 : p-75 ≡ heldOf (h1 .state) h6 (bestWith (p-60 .at) (candidateOf h6 p-31 (recordIn p-71)) (p-36 .candidate) (p-41 .candidate) (p-46 .candidate) (p-51 .candidate) (p-56 .candidate))) (is-77 : Is R-Held p-75 (w-74 ∷ [])) → Sq W (‵ (fobs γ8 (R-AnswerWords .coded .code (p-75 .answer))) ∷ ‵ (fbor κ8 (Body (mem R-AnswerWords) b8 o8 γ8)) ∷ ‵ (flft κ8 q8) ∷ ‵ (fobs γ3 (codedHoleys R-MasterWords .code (heres R-MasterWords (set h3 (p-60 .at) p-71)))) ∷ ‵ (fbor κ3 (Held R-MasterWords (length (set h3 (p-60 .at) p-71)) b3 o3 γ3)) ∷ ‵ (flft κ3 q3) ∷ ‵ (fobs γ1 (R-UnitWords .coded .code h1)) ∷ ‵ (fbor κ1 (Body (mem R-UnitWords) b1 o1 γ1)) ∷ ‵ (flft κ1 q1) ∷ ‵ (MutSlice (named 4) κ5 R-u8 .own (x5 zs-8) ((sliceVal (b5, o5) (length h5)) ∷ [])) ∷ ‵ (flft κ5 q5) ∷ ‵ (flft κ4 q4) ∷ ‵ (flft κ2 q2) ∷ ‵ (ftrue) ∷ ‵ (R-Stamp .own h7 (u7 ∷ [])) ∷ ‵ (R-u64 .own h6 (u6 ∷ [])) ∷ ‵ (fobs γ4 (R-Watch .coded .code h4)) ∷ ‵ (fbor κ4 (Body (mem R-Watch) b4 o4 γ4)) ∷ ‵ (at-slice R-MasterWords (x3 h3) ((sliceVal (b3, o3) (length h3)) ∷ [])) ∷ ‵ (fobs γ2 (R-Servo .coded .code h2)) ∷ ‵ (fbor κ2 (Body (mem R-Servo) b2 o2 γ2)) ∷ ‵ (froom (tyRef erased mut (pointee (R-u8x128 .written))) l65 0) ∷ ‵ (fdies (tyRef erased mut (pointee (R-u8x128 .written))) l65) ∷ ‵ (froom (tyRef erased mut (pointee (R-i32x128 .written))) l64 0) ∷ ‵ (fdies (tyRef erased mut (pointee (R-i32x128 .written))) l64) ∷ ‵ (froom (tyRef erased mut (pointee (R-i64x128 .written))) l63 0) ∷ ‵ (fdies (tyRef erased mut (pointee (R-i64x128 .written))) l63) ∷ ‵ (froom MHead′.mir l62 0) ∷ ‵ (fdies MHead′.mir l62) ∷ ‵ (froom MAnswerWords′.mir l61 0) ∷ ‵ (fdies MAnswerWords′.mir l61) ∷ ‵ (froom MAnswerWords′.mir l60 0) ∷ ‵ (fdies MAnswerWords′.mir l60) ∷ ‵ (froom (tyRef erased mut (pointee (R-u8x128 .written))) l59 0) ∷ ‵ (fdies (tyRef erased mut (pointee (R-u8x128 .written))) l59) ∷ ‵ (froom (tyRef erased mut (pointee (R-i32x128 .written))) l58 0) ∷ ‵ (fdies (tyRef erased mut (pointee (R-i32x128 .written))) l58) ∷ ‵ (froom (tyRef erased mut (pointee (R-i64x128 .written))) l57 0) ∷ ‵ (fdies (tyRef erased mut (pointee (R-i64x128 .written))) l57) ∷ ‵ (froom MHead′.mir l56 0) ∷ ‵ (fdies MHead′.mir l56) ∷ ‵ (froom tyPtr l55 0) ∷ ‵ (fdies tyPtr l55) ∷ ‵ (froom tyPtr l54 0) ∷ ‵ (fdies tyPtr l54) ∷ ‵ (froom (tyInt w64) l53 0) ∷ ‵ (fdies (tyInt w64) l53) ∷ ‵ (froom MAnswerWords′.mir l52 0) ∷ ‵ (fdies MAnswerWords′.mir l52) ∷ ‵ (froom tyBool l51 0) ∷ ‵ (fdies tyBool l51) ∷ ‵ (froom tyPtr l50 0) ∷ ‵ (fdies tyPtr l50) ∷ ‵ (froom tyPtr l49 0) ∷ ‵ (fdies tyPtr l49) ∷ ‵ (froom tyPtr l48 0) ∷ ‵ (fdies tyPtr l48) ∷ ‵ (froom tyPtr l47 0) ∷ ‵ (fdies tyPtr l47) ∷ ‵ (froom MMasterWords′.mir l46 0) ∷ ‵ (fdies MMasterWords′.mir l46) ∷ ‵ (froom tyPtr l45 0) ∷ ‵ (fdies tyPtr l45) ∷ ‵ (froom MAnswerWords′.mir l44 0) ∷ ‵ (fdies MAnswerWords′.mir l44) ∷ ‵ (froom (tyInt w64) l43 0) ∷ ‵ (fdies (tyInt w64) l43) ∷ ‵ (froom MAnswerWords′.mir l42 0) ∷ ‵ (fdies MAnswerWords′.mir l42) ∷ ‵ (froom tyBool l41 0) ∷ ‵ (fdies tyBool l41) ∷ ‵ (froom (sliceTy (tyRef erased mut (tyInt w8))) l40 0) ∷ ‵ (fdies (sliceTy (tyRef erased mut (tyInt w8))) l40) ∷ ‵ (froom (tyRef erased mut (tyInt w8)) l39 0) ∷ ‵ (fdies (tyRef erased mut (tyInt w8)) l39) ∷ ‵ (froom (tyInt w16) l38 0) ∷ ‵ (fdies (tyInt w16) l38) ∷ ‵ (froom (tyInt w8) l37 0) ∷ ‵ (fdies (tyInt w8) l37) ∷ ‵ (froom MServo′.mir l36 0) ∷ ‵ (fdies MServo′.mir l36) ∷ ‵ (froom tyBool l35 0) ∷ ‵ (fdies tyBool l35) ∷ ‵ (froom tyBool l34 0) ∷ ‵ (fdies tyBool l34) ∷ ‵ (froom MAccepted′.mir l33 0) ∷ ‵ (fdies MAccepted′.mir l33) ∷ ‵ (froom MServo′.mir l32 0) ∷ ‵ (fdies MServo′.mir l32) ∷ ‵ (froom tyBool l31 0) ∷ ‵ (fdies tyBool l31) ∷ ‵ (froom MTold′.mir l30 0) ∷ ‵ (fdies MTold′.mir l30) ∷ ‵ (froom MDelaysWords′.mir l29 0) ∷ ‵ (fdies MDelaysWords′.mir l29) ∷ ‵ (froom MHalvesWords′.mir l28 0) ∷ ‵ (fdies MHalvesWords′.mir l28) ∷ ‵ (froom MEmptied′.mir l27 0) ∷ ‵ (fdies MEmptied′.mir l27) ∷ ‵ (froom tyBool l26 0) ∷ ‵ (fdies tyBool l26) ∷ ‵ (fat fullShare MHeld′.mir l25 0 (vstruct (ofList ((parts-Held p-75 w-74 is-77) .pu0 ∷ (parts-Held p-75 w-74 is-77) .pu1 ∷ (parts-Held p-75 w-74 is-77) .pu2 ∷ [])))) ∷ ‵ (fdies MHeld′.mir l25) ∷ ‵ (froom MMasterWords′.mir l24 0) ∷ ‵ (fdies MMasterWords′.mir l24) ∷ ‵ (froom (tyInt w64) l23 0) ∷ ‵ (fdies (tyInt w64) l23) ∷ ‵ (froom tyBool l22 0) ∷ ‵ (fdies tyBool l22) ∷ ‵ (froom MSeat′.mir l21 0) ∷ ‵ (fdies MSeat′.mir l21) ∷ ‵ (froom MLooked′.mir l20 0) ∷ ‵ (fdies MLooked′.mir l20) ∷ ‵ (froom MLooked′.mir l19 0) ∷ ‵ (fdies MLooked′.mir l19) ∷ ‵ (froom MLooked′.mir l18 0) ∷ ‵ (fdies MLooked′.mir l18) ∷ ‵ (froom MLooked′.mir l17 0) ∷ ‵ (fdies MLooked′.mir l17) ∷ ‵ (froom MLooked′.mir l16 0) ∷ ‵ (fdies MLooked′.mir l16) ∷ ‵ (froom (tyInt w32) l15 0) ∷ ‵ (fdies (tyInt w32) l15) ∷ ‵ (froom tyBool l14 0) ∷ ‵ (fdies tyBool l14) ∷ ‵ (froom MStateWords′.mir l13 0) ∷ ‵ (fdies MStateWords′.mir l13) ∷ ‵ (fat fullShare MSettingsWords′.mir l12 0 u-24) ∷ ‵ (fdies MSettingsWords′.mir l12) ∷ ‵ (froom MMessage′.mir l11 0) ∷ ‵ (fdies MMessage′.mir l11) ∷ ‵ (froom tyBool l10 0) ∷ ‵ (fdies tyBool l10) ∷ ‵ (froom MReceived′.mir l9 0) ∷ ‵ (fdies MReceived′.mir l9) ∷ ‵ (froom (tyRef (named 5) mut (pointee (R-AnswerWords .written))) l8 0) ∷ ‵ (fdies (tyRef (named 5) mut (pointee (R-AnswerWords .written))) l8) ∷ ‵ (froom MStamp′.mir l7 0) ∷ ‵ (fdies MStamp′.mir l7) ∷ ‵ (froom (tyInt w64) l6 0) ∷ ‵ (fdies (tyInt w64) l6) ∷ ‵ (froom (sliceTy (tyRef (named 4) mut (tyInt w8))) l5 0) ∷ ‵ (fdies (sliceTy (tyRef (named 4) mut (tyInt w8))) l5) ∷ ‵ (fat fullShare (tyRef (named 3) mut (pointee (R-Watch .written))) l4 0 (vptr b4 o4)) ∷ ‵ (fdies (tyRef (named 3) mut (pointee (R-Watch .written))) l4) ∷ ‵ (froom (sliceTy (tyRef (named 2) mut (pointee (R-MasterWords .written)))) l3 0) ∷ ‵ (fdies (sliceTy (tyRef (named 2) mut (pointee (R-MasterWords .written)))) l3) ∷ ‵ (fat fullShare (tyRef (named 1) mut (pointee (R-Servo .written))) l2 0 (vptr b2 o2)) ∷ ‵ (fdies (tyRef (named 1) mut (pointee (R-Servo .written))) l2) ∷ ‵ (fat fullShare (tyRef (named 0) mut (pointee (R-UnitWords .written))) l1 0 (vptr b1 o1)) ∷ ‵ (fdies (tyRef (named 0) mut (pointee (R-UnitWords .written))) l1) ∷ ‵ (froom tyUnit l0 0) ∷ ‵ (fdies tyUnit l0) ∷ []) (runs C Λ En i-15-31 qq)
       from-15-31 qq ee zs-8 len-9 p-4 w-3 e-6 is-7 left1 good u-24 g-25 u-28 g-29 held2 p-31 w-30 e-32 is-33 g-34 p-36 w-35 e-37 is-38 g-39 p-41 w-40 e-42 is-43 g-44 p-46 w-45 e-47 is-48 g-49 p-51 w-50 e-52 is-53 g-54 p-56 w-55 e-57 is-58 p-60 w-59 e-61 is-62 left3 g-69 p-71 w-70 e-72 is-73 p-75 w-74 e-76 is-77 =
           move ! (6 ∷ 7 ∷ 8 ∷ []) $
           opens ! tt R-UnitWords {h = h1} b1 o1 (λ vs-80.
@@ -2238,7 +2238,7 @@ module _ {M : Type 1} (𝓤 : URA M) (H : Heap 𝓤) (A : Atoms 𝓤) (W : Given
           move ! (1 ∷ []) $
           use1 W (‵ (fat fullShare MUnitWords′.mir b1 o1 (only vs-80))) (W .laws .raw-at fullShare MUnitWords′.mir b1 o1 (only vs-80)) $
           rewrite ! 0 (λ (u : Val). ‵ (fat fullShare MUnitWords′.mir b1 o1 u)) ((parts-UnitWords h1 (only vs-80) (one-UnitWords h1 vs-80 g-81)) .whole-is) refl $
-          assigns ! (of-opd ! (load ! (from ! (fld ! {τ = MStateWords′.mir} {d = off-Held-1} field-Held-1 (stop !))) (look-in ! 95 (sub ! {ν = name-of MHeld′.mir} {τs = tys-of MHeld′.mir} 1 {τ = MStateWords′.mir} {d = off-Held-1} field-Held-1 (whole !))))) (from ! (hop ! (look ! 143 refl) (fld ! {τ = MStateWords′.mir} {d = off-UnitWords-1} field-UnitWords-1 (stop !)))) (store-in ! 0 (sub ! {ν = name-of MUnitWords′.mir} {τs = tys-of MUnitWords′.mir} 1 {τ = MStateWords′.mir} {d = off-UnitWords-1} field-UnitWords-1 (whole !)) (lawful-StateWords 𝓤 H A W .typed (p-75 .state) _ ((parts-Held p-75 w-74 is-77) .pg1) .0)) $
+          assigns ! (of-opd ! (load ! (from ! (fld ! {τ = MStateWords′.mir} {d = off-Held-1} field-Held-1 (stop !))) (look-in ! 103 (sub ! {ν = name-of MHeld′.mir} {τs = tys-of MHeld′.mir} 1 {τ = MStateWords′.mir} {d = off-Held-1} field-Held-1 (whole !))))) (from ! (hop ! (look ! 151 refl) (fld ! {τ = MStateWords′.mir} {d = off-UnitWords-1} field-UnitWords-1 (stop !)))) (store-in ! 0 (sub ! {ν = name-of MUnitWords′.mir} {τs = tys-of MUnitWords′.mir} 1 {τ = MStateWords′.mir} {d = off-UnitWords-1} field-UnitWords-1 (whole !)) (lawful-StateWords 𝓤 H A W .typed (p-75 .state) _ ((parts-Held p-75 w-74 is-77) .pg1) .0)) $
           use1 W (‵ (cellAt fullShare (R-UnitWords .mir) ((vstruct (ofList (((parts-UnitWords h1 (only vs-80) (one-UnitWords h1 vs-80 g-81)) .pu0) ∷ ((parts-Held p-75 w-74 is-77) .pu1) ∷ ((parts-UnitWords h1 (only vs-80) (one-UnitWords h1 vs-80 g-81)) .pu2) ∷ ((parts-UnitWords h1 (only vs-80) (one-UnitWords h1 vs-80 g-81)) .pu3) ∷ []))) ∷ []) b1 o1)) (W .laws .at-raw fullShare MUnitWords′.mir b1 o1 (vstruct (ofList (((parts-UnitWords h1 (only vs-80) (one-UnitWords h1 vs-80 g-81)) .pu0) ∷ ((parts-Held p-75 w-74 is-77) .pu1) ∷ ((parts-UnitWords h1 (only vs-80) (one-UnitWords h1 vs-80 g-81)) .pu2) ∷ ((parts-UnitWords h1 (only vs-80) (one-UnitWords h1 vs-80 g-81)) .pu3) ∷ [])))) $
           move ! (1 ∷ []) $
           drop ! $
@@ -2247,10 +2247,10 @@ module _ {M : Type 1} (𝓤 : URA M) (H : Heap 𝓤) (A : Atoms 𝓤) (W : Given
           closes ! tt R-UnitWords (with-UnitWords-1 h1 (p-75 .state)) ((vstruct (ofList (((parts-UnitWords h1 (only vs-80) (one-UnitWords h1 vs-80 g-81)) .pu0) ∷ ((parts-Held p-75 w-74 is-77) .pu1) ∷ ((parts-UnitWords h1 (only vs-80) (one-UnitWords h1 vs-80 g-81)) .pu2) ∷ ((parts-UnitWords h1 (only vs-80) (one-UnitWords h1 vs-80 g-81)) .pu3) ∷ []))) ∷ []) b1 o1 $
           from-15-32 qq ee zs-8 len-9 p-4 w-3 e-6 is-7 left1 good u-24 g-25 u-28 g-29 held2 p-31 w-30 e-32 is-33 g-34 p-36 w-35 e-37 is-38 g-39 p-41 w-40 e-42 is-43 g-44 p-46 w-45 e-47 is-48 g-49 p-51 w-50 e-52 is-53 g-54 p-56 w-55 e-57 is-58 p-60 w-59 e-61 is-62 left3 g-69 p-71 w-70 e-72 is-73 p-75 w-74 e-76 is-77))
 
-      from-15-29 : (qq : Kit-Post 𝓤 H) (ee : post 𝓤 H qq returnsᴼ ≡ atReturn 𝓤 H En Post returnsᴼ) (zs-8 : List ℕ) (len-9 : length zs-8 ≡ length h5) (p-4 : SReceived.Received) (w-3 : Val) (e-6 : (p-4 ≡ receivedBy (readOf h5)) × (zs-8 ≡ h5)) (is-7 : Is R-Received p-4 (w-3 ∷ [])) (left1 : Holds (not (p-4 .barred))) (good : Holds (not (not (eqb (length h3) 5)))) (u-24 : Val) (g-25 : Is R-SettingsWords (h1 .settings) (u-24 ∷ [])) (u-28 : Val) (g-29 : Is R-StateWords (h1 .state) (u-28 ∷ [])) (held2 : Holds (p-4 .announces)) (p-31 : ℕ) (w-30 : Val) (e-32 : p-31 ≡ intervalOf ((h1 .settings) .announce)) (is-33 : Is R-u32 p-31 (w-30 ∷ [])) (g-34 : Is R-MasterWords (el 0) (v-MasterWords (el 0))) (p-36 : SLooked.Looked) (w-35 : Val) (e-37 : p-36 ≡ lookedOf (p-4 .message) h6 p-31 (recordIn (el 0))) (is-38 : Is R-Looked p-36 (w-35 ∷ [])) (g-39 : Is R-MasterWords (el 1) (v-MasterWords (el 1))) (p-41 : SLooked.Looked) (w-40 : Val) (e-42 : p-41 ≡ lookedOf (p-4 .message) h6 p-31 (recordIn (el 1))) (is-43 : Is R-Looked p-41 (w-40 ∷ [])) (g-44 : Is R-MasterWords (el 2) (v-MasterWords (el 2))) (p-46 : SLooked.Looked) (w-45 : Val) (e-47 : p-46 ≡ lookedOf (p-4 .message) h6 p-31 (recordIn (el 2))) (is-48 : Is R-Looked p-46 (w-45 ∷ [])) (g-49 : Is R-MasterWords (el 3) (v-MasterWords (el 3))) (p-51 : SLooked.Looked) (w-50 : Val) (e-52 : p-51 ≡ lookedOf (p-4 .message) h6 p-31 (recordIn (el 3))) (is-53 : Is R-Looked p-51 (w-50 ∷ [])) (g-54 : Is R-MasterWords (el 4) (v-MasterWords (el 4))) (p-56 : SLooked.Looked) (w-55 : Val) (e-57 : p-56 ≡ lookedOf (p-4 .message) h6 p-31 (recordIn (el 4))) (is-58 : Is R-Looked p-56 (w-55 ∷ [])) (p-60 : SSeat.Seat) (w-59 : Val) (e-61 : p-60 ≡ seatBy (h1 .settings) (h1 .state) (p-4 .message) h6 (p-36 .standing) (p-41 .standing) (p-46 .standing) (p-51 .standing) (p-56 .standing)) (is-62 : Is R-Seat p-60 (w-59 ∷ [])) (left3 : Holds (not (p-60 .barred))) (g-69 : Is R-MasterWords (el (p-60 .at)) (v-MasterWords (el (p-60 .at)))) (p-71 : SMasterWords.MasterWords) (w-70 : Val) (e-72 : p-71 ≡ placedOf (el (p-60 .at)) (p-4 .message) (p-60 .known) h6) (is-73 : Is R-MasterWords p-71 (w-70 ∷ [])) → Sq W (‵ (fobs γ3 (codedHoleys R-MasterWords .code (heres R-MasterWords (set h3 (p-60 .at) p-71)))) ∷ ‵ (fbor κ3 (Held R-MasterWords (length (set h3 (p-60 .at) p-71)) b3 o3 γ3)) ∷ ‵ (flft κ3 q3) ∷ ‵ (fobs γ1 (R-UnitWords .coded .code h1)) ∷ ‵ (fbor κ1 (Body (mem R-UnitWords) b1 o1 γ1)) ∷ ‵ (flft κ1 q1) ∷ ‵ (MutSlice (named 4) κ5 R-u8 .own (x5 zs-8) ((sliceVal (b5, o5) (length h5)) ∷ [])) ∷ ‵ (flft κ5 q5) ∷ ‵ (flft κ8 q8) ∷ ‵ (flft κ4 q4) ∷ ‵ (flft κ2 q2) ∷ ‵ (ftrue) ∷ ‵ (fobs γ8 (R-AnswerWords .coded .code h8)) ∷ ‵ (fbor κ8 (Body (mem R-AnswerWords) b8 o8 γ8)) ∷ ‵ (R-Stamp .own h7 (u7 ∷ [])) ∷ ‵ (R-u64 .own h6 (u6 ∷ [])) ∷ ‵ (fobs γ4 (R-Watch .coded .code h4)) ∷ ‵ (fbor κ4 (Body (mem R-Watch) b4 o4 γ4)) ∷ ‵ (at-slice R-MasterWords (x3 h3) ((sliceVal (b3, o3) (length h3)) ∷ [])) ∷ ‵ (fobs γ2 (R-Servo .coded .code h2)) ∷ ‵ (fbor κ2 (Body (mem R-Servo) b2 o2 γ2)) ∷ ‵ (froom (tyRef erased mut (pointee (R-u8x128 .written))) l61 0) ∷ ‵ (fdies (tyRef erased mut (pointee (R-u8x128 .written))) l61) ∷ ‵ (froom (tyRef erased mut (pointee (R-i32x128 .written))) l60 0) ∷ ‵ (fdies (tyRef erased mut (pointee (R-i32x128 .written))) l60) ∷ ‵ (froom (tyRef erased mut (pointee (R-i64x128 .written))) l59 0) ∷ ‵ (fdies (tyRef erased mut (pointee (R-i64x128 .written))) l59) ∷ ‵ (froom MHead′.mir l58 0) ∷ ‵ (fdies MHead′.mir l58) ∷ ‵ (froom MAnswerWords′.mir l57 0) ∷ ‵ (fdies MAnswerWords′.mir l57) ∷ ‵ (froom MAnswerWords′.mir l56 0) ∷ ‵ (fdies MAnswerWords′.mir l56) ∷ ‵ (froom (tyRef erased mut (pointee (R-u8x128 .written))) l55 0) ∷ ‵ (fdies (tyRef erased mut (pointee (R-u8x128 .written))) l55) ∷ ‵ (froom (tyRef erased mut (pointee (R-i32x128 .written))) l54 0) ∷ ‵ (fdies (tyRef erased mut (pointee (R-i32x128 .written))) l54) ∷ ‵ (froom (tyRef erased mut (pointee (R-i64x128 .written))) l53 0) ∷ ‵ (fdies (tyRef erased mut (pointee (R-i64x128 .written))) l53) ∷ ‵ (froom MHead′.mir l52 0) ∷ ‵ (fdies MHead′.mir l52) ∷ ‵ (froom tyPtr l51 0) ∷ ‵ (fdies tyPtr l51) ∷ ‵ (froom tyPtr l50 0) ∷ ‵ (fdies tyPtr l50) ∷ ‵ (froom (tyInt w64) l49 0) ∷ ‵ (fdies (tyInt w64) l49) ∷ ‵ (froom MAnswerWords′.mir l48 0) ∷ ‵ (fdies MAnswerWords′.mir l48) ∷ ‵ (froom tyBool l47 0) ∷ ‵ (fdies tyBool l47) ∷ ‵ (froom tyPtr l46 0) ∷ ‵ (fdies tyPtr l46) ∷ ‵ (froom tyPtr l45 0) ∷ ‵ (fdies tyPtr l45) ∷ ‵ (froom tyPtr l44 0) ∷ ‵ (fdies tyPtr l44) ∷ ‵ (froom tyPtr l43 0) ∷ ‵ (fdies tyPtr l43) ∷ ‵ (froom MMasterWords′.mir l42 0) ∷ ‵ (fdies MMasterWords′.mir l42) ∷ ‵ (froom tyPtr l41 0) ∷ ‵ (fdies tyPtr l41) ∷ ‵ (froom MAnswerWords′.mir l40 0) ∷ ‵ (fdies MAnswerWords′.mir l40) ∷ ‵ (froom (tyInt w64) l39 0) ∷ ‵ (fdies (tyInt w64) l39) ∷ ‵ (froom MAnswerWords′.mir l38 0) ∷ ‵ (fdies MAnswerWords′.mir l38) ∷ ‵ (froom tyBool l37 0) ∷ ‵ (fdies tyBool l37) ∷ ‵ (froom (sliceTy (tyRef erased mut (tyInt w8))) l36 0) ∷ ‵ (fdies (sliceTy (tyRef erased mut (tyInt w8))) l36) ∷ ‵ (froom (tyRef erased mut (tyInt w8)) l35 0) ∷ ‵ (fdies (tyRef erased mut (tyInt w8)) l35) ∷ ‵ (froom tyBool l34 0) ∷ ‵ (fdies tyBool l34) ∷ ‵ (froom MServo′.mir l33 0) ∷ ‵ (fdies MServo′.mir l33) ∷ ‵ (froom MServo′.mir l32 0) ∷ ‵ (fdies MServo′.mir l32) ∷ ‵ (froom tyBool l31 0) ∷ ‵ (fdies tyBool l31) ∷ ‵ (froom MTold′.mir l30 0) ∷ ‵ (fdies MTold′.mir l30) ∷ ‵ (froom MDelaysWords′.mir l29 0) ∷ ‵ (fdies MDelaysWords′.mir l29) ∷ ‵ (froom MHalvesWords′.mir l28 0) ∷ ‵ (fdies MHalvesWords′.mir l28) ∷ ‵ (froom MEmptied′.mir l27 0) ∷ ‵ (fdies MEmptied′.mir l27) ∷ ‵ (froom tyBool l26 0) ∷ ‵ (fdies tyBool l26) ∷ ‵ (froom MHeld′.mir l25 0) ∷ ‵ (fdies MHeld′.mir l25) ∷ ‵ (fat fullShare MMasterWords′.mir l24 0 w-70) ∷ ‵ (fdies MMasterWords′.mir l24) ∷ ‵ (froom (tyInt w64) l23 0) ∷ ‵ (fdies (tyInt w64) l23) ∷ ‵ (froom tyBool l22 0) ∷ ‵ (fdies tyBool l22) ∷ ‵ (fat fullShare MSeat′.mir l21 0 w-59) ∷ ‵ (fdies MSeat′.mir l21) ∷ ‵ (fat fullShare MLooked′.mir l20 0 w-55) ∷ ‵ (fdies MLooked′.mir l20) ∷ ‵ (fat fullShare MLooked′.mir l19 0 w-50) ∷ ‵ (fdies MLooked′.mir l19) ∷ ‵ (fat fullShare MLooked′.mir l18 0 w-45) ∷ ‵ (fdies MLooked′.mir l18) ∷ ‵ (fat fullShare MLooked′.mir l17 0 w-40) ∷ ‵ (fdies MLooked′.mir l17) ∷ ‵ (fat fullShare MLooked′.mir l16 0 w-35) ∷ ‵ (fdies MLooked′.mir l16) ∷ ‵ (fat fullShare (tyInt w32) l15 0 w-30) ∷ ‵ (fdies (tyInt w32) l15) ∷ ‵ (froom tyBool l14 0) ∷ ‵ (fdies tyBool l14) ∷ ‵ (fat fullShare MStateWords′.mir l13 0 u-28) ∷ ‵ (fdies MStateWords′.mir l13) ∷ ‵ (fat fullShare MSettingsWords′.mir l12 0 u-24) ∷ ‵ (fdies MSettingsWords′.mir l12) ∷ ‵ (froom MMessage′.mir l11 0) ∷ ‵ (fdies MMessage′.mir l11) ∷ ‵ (froom tyBool l10 0) ∷ ‵ (fdies tyBool l10) ∷ ‵ (froom MReceived′.mir l9 0) ∷ ‵ (fdies MReceived′.mir l9) ∷ ‵ (fat fullShare (tyRef (named 5) mut (pointee (R-AnswerWords .written))) l8 0 (vptr b8 o8)) ∷ ‵ (fdies (tyRef (named 5) mut (pointee (R-AnswerWords .written))) l8) ∷ ‵ (froom MStamp′.mir l7 0) ∷ ‵ (fdies MStamp′.mir l7) ∷ ‵ (fat fullShare (tyInt w64) l6 0 u6) ∷ ‵ (fdies (tyInt w64) l6) ∷ ‵ (froom (sliceTy (tyRef (named 4) mut (tyInt w8))) l5 0) ∷ ‵ (fdies (sliceTy (tyRef (named 4) mut (tyInt w8))) l5) ∷ ‵ (fat fullShare (tyRef (named 3) mut (pointee (R-Watch .written))) l4 0 (vptr b4 o4)) ∷ ‵ (fdies (tyRef (named 3) mut (pointee (R-Watch .written))) l4) ∷ ‵ (froom (sliceTy (tyRef (named 2) mut (pointee (R-MasterWords .written)))) l3 0) ∷ ‵ (fdies (sliceTy (tyRef (named 2) mut (pointee (R-MasterWords .written)))) l3) ∷ ‵ (fat fullShare (tyRef (named 1) mut (pointee (R-Servo .written))) l2 0 (vptr b2 o2)) ∷ ‵ (fdies (tyRef (named 1) mut (pointee (R-Servo .written))) l2) ∷ ‵ (fat fullShare (tyRef (named 0) mut (pointee (R-UnitWords .written))) l1 0 (vptr b1 o1)) ∷ ‵ (fdies (tyRef (named 0) mut (pointee (R-UnitWords .written))) l1) ∷ ‵ (froom tyUnit l0 0) ∷ ‵ (fdies tyUnit l0) ∷ []) (runs C Λ En i-15-29 qq)
+      from-15-29 : (qq : Kit-Post 𝓤 H) (ee : post 𝓤 H qq returnsᴼ ≡ atReturn 𝓤 H En Post returnsᴼ) (zs-8 : List ℕ) (len-9 : length zs-8 ≡ length h5) (p-4 : SReceived.Received) (w-3 : Val) (e-6 : (p-4 ≡ receivedBy (readOf h5)) × (zs-8 ≡ h5)) (is-7 : Is R-Received p-4 (w-3 ∷ [])) (left1 : Holds (not (p-4 .barred))) (good : Holds (not (not (eqb (length h3) 5)))) (u-24 : Val) (g-25 : Is R-SettingsWords (h1 .settings) (u-24 ∷ [])) (u-28 : Val) (g-29 : Is R-StateWords (h1 .state) (u-28 ∷ [])) (held2 : Holds (p-4 .announces)) (p-31 : ℕ) (w-30 : Val) (e-32 : p-31 ≡ intervalOf ((h1 .settings) .announce)) (is-33 : Is R-u32 p-31 (w-30 ∷ [])) (g-34 : Is R-MasterWords (el 0) (v-MasterWords (el 0))) (p-36 : SLooked.Looked) (w-35 : Val) (e-37 : p-36 ≡ lookedOf (p-4 .message) h6 p-31 (recordIn (el 0))) (is-38 : Is R-Looked p-36 (w-35 ∷ [])) (g-39 : Is R-MasterWords (el 1) (v-MasterWords (el 1))) (p-41 : SLooked.Looked) (w-40 : Val) (e-42 : p-41 ≡ lookedOf (p-4 .message) h6 p-31 (recordIn (el 1))) (is-43 : Is R-Looked p-41 (w-40 ∷ [])) (g-44 : Is R-MasterWords (el 2) (v-MasterWords (el 2))) (p-46 : SLooked.Looked) (w-45 : Val) (e-47 : p-46 ≡ lookedOf (p-4 .message) h6 p-31 (recordIn (el 2))) (is-48 : Is R-Looked p-46 (w-45 ∷ [])) (g-49 : Is R-MasterWords (el 3) (v-MasterWords (el 3))) (p-51 : SLooked.Looked) (w-50 : Val) (e-52 : p-51 ≡ lookedOf (p-4 .message) h6 p-31 (recordIn (el 3))) (is-53 : Is R-Looked p-51 (w-50 ∷ [])) (g-54 : Is R-MasterWords (el 4) (v-MasterWords (el 4))) (p-56 : SLooked.Looked) (w-55 : Val) (e-57 : p-56 ≡ lookedOf (p-4 .message) h6 p-31 (recordIn (el 4))) (is-58 : Is R-Looked p-56 (w-55 ∷ [])) (p-60 : SSeat.Seat) (w-59 : Val) (e-61 : p-60 ≡ seatBy (h1 .settings) (h1 .state) (p-4 .message) h6 (p-36 .standing) (p-41 .standing) (p-46 .standing) (p-51 .standing) (p-56 .standing)) (is-62 : Is R-Seat p-60 (w-59 ∷ [])) (left3 : Holds (not (p-60 .barred))) (g-69 : Is R-MasterWords (el (p-60 .at)) (v-MasterWords (el (p-60 .at)))) (p-71 : SMasterWords.MasterWords) (w-70 : Val) (e-72 : p-71 ≡ placedOf (el (p-60 .at)) (p-4 .message) (p-60 .known) h6) (is-73 : Is R-MasterWords p-71 (w-70 ∷ [])) → Sq W (‵ (fobs γ3 (codedHoleys R-MasterWords .code (heres R-MasterWords (set h3 (p-60 .at) p-71)))) ∷ ‵ (fbor κ3 (Held R-MasterWords (length (set h3 (p-60 .at) p-71)) b3 o3 γ3)) ∷ ‵ (flft κ3 q3) ∷ ‵ (fobs γ1 (R-UnitWords .coded .code h1)) ∷ ‵ (fbor κ1 (Body (mem R-UnitWords) b1 o1 γ1)) ∷ ‵ (flft κ1 q1) ∷ ‵ (MutSlice (named 4) κ5 R-u8 .own (x5 zs-8) ((sliceVal (b5, o5) (length h5)) ∷ [])) ∷ ‵ (flft κ5 q5) ∷ ‵ (flft κ8 q8) ∷ ‵ (flft κ4 q4) ∷ ‵ (flft κ2 q2) ∷ ‵ (ftrue) ∷ ‵ (fobs γ8 (R-AnswerWords .coded .code h8)) ∷ ‵ (fbor κ8 (Body (mem R-AnswerWords) b8 o8 γ8)) ∷ ‵ (R-Stamp .own h7 (u7 ∷ [])) ∷ ‵ (R-u64 .own h6 (u6 ∷ [])) ∷ ‵ (fobs γ4 (R-Watch .coded .code h4)) ∷ ‵ (fbor κ4 (Body (mem R-Watch) b4 o4 γ4)) ∷ ‵ (at-slice R-MasterWords (x3 h3) ((sliceVal (b3, o3) (length h3)) ∷ [])) ∷ ‵ (fobs γ2 (R-Servo .coded .code h2)) ∷ ‵ (fbor κ2 (Body (mem R-Servo) b2 o2 γ2)) ∷ ‵ (froom (tyRef erased mut (pointee (R-u8x128 .written))) l65 0) ∷ ‵ (fdies (tyRef erased mut (pointee (R-u8x128 .written))) l65) ∷ ‵ (froom (tyRef erased mut (pointee (R-i32x128 .written))) l64 0) ∷ ‵ (fdies (tyRef erased mut (pointee (R-i32x128 .written))) l64) ∷ ‵ (froom (tyRef erased mut (pointee (R-i64x128 .written))) l63 0) ∷ ‵ (fdies (tyRef erased mut (pointee (R-i64x128 .written))) l63) ∷ ‵ (froom MHead′.mir l62 0) ∷ ‵ (fdies MHead′.mir l62) ∷ ‵ (froom MAnswerWords′.mir l61 0) ∷ ‵ (fdies MAnswerWords′.mir l61) ∷ ‵ (froom MAnswerWords′.mir l60 0) ∷ ‵ (fdies MAnswerWords′.mir l60) ∷ ‵ (froom (tyRef erased mut (pointee (R-u8x128 .written))) l59 0) ∷ ‵ (fdies (tyRef erased mut (pointee (R-u8x128 .written))) l59) ∷ ‵ (froom (tyRef erased mut (pointee (R-i32x128 .written))) l58 0) ∷ ‵ (fdies (tyRef erased mut (pointee (R-i32x128 .written))) l58) ∷ ‵ (froom (tyRef erased mut (pointee (R-i64x128 .written))) l57 0) ∷ ‵ (fdies (tyRef erased mut (pointee (R-i64x128 .written))) l57) ∷ ‵ (froom MHead′.mir l56 0) ∷ ‵ (fdies MHead′.mir l56) ∷ ‵ (froom tyPtr l55 0) ∷ ‵ (fdies tyPtr l55) ∷ ‵ (froom tyPtr l54 0) ∷ ‵ (fdies tyPtr l54) ∷ ‵ (froom (tyInt w64) l53 0) ∷ ‵ (fdies (tyInt w64) l53) ∷ ‵ (froom MAnswerWords′.mir l52 0) ∷ ‵ (fdies MAnswerWords′.mir l52) ∷ ‵ (froom tyBool l51 0) ∷ ‵ (fdies tyBool l51) ∷ ‵ (froom tyPtr l50 0) ∷ ‵ (fdies tyPtr l50) ∷ ‵ (froom tyPtr l49 0) ∷ ‵ (fdies tyPtr l49) ∷ ‵ (froom tyPtr l48 0) ∷ ‵ (fdies tyPtr l48) ∷ ‵ (froom tyPtr l47 0) ∷ ‵ (fdies tyPtr l47) ∷ ‵ (froom MMasterWords′.mir l46 0) ∷ ‵ (fdies MMasterWords′.mir l46) ∷ ‵ (froom tyPtr l45 0) ∷ ‵ (fdies tyPtr l45) ∷ ‵ (froom MAnswerWords′.mir l44 0) ∷ ‵ (fdies MAnswerWords′.mir l44) ∷ ‵ (froom (tyInt w64) l43 0) ∷ ‵ (fdies (tyInt w64) l43) ∷ ‵ (froom MAnswerWords′.mir l42 0) ∷ ‵ (fdies MAnswerWords′.mir l42) ∷ ‵ (froom tyBool l41 0) ∷ ‵ (fdies tyBool l41) ∷ ‵ (froom (sliceTy (tyRef erased mut (tyInt w8))) l40 0) ∷ ‵ (fdies (sliceTy (tyRef erased mut (tyInt w8))) l40) ∷ ‵ (froom (tyRef erased mut (tyInt w8)) l39 0) ∷ ‵ (fdies (tyRef erased mut (tyInt w8)) l39) ∷ ‵ (froom (tyInt w16) l38 0) ∷ ‵ (fdies (tyInt w16) l38) ∷ ‵ (froom (tyInt w8) l37 0) ∷ ‵ (fdies (tyInt w8) l37) ∷ ‵ (froom MServo′.mir l36 0) ∷ ‵ (fdies MServo′.mir l36) ∷ ‵ (froom tyBool l35 0) ∷ ‵ (fdies tyBool l35) ∷ ‵ (froom tyBool l34 0) ∷ ‵ (fdies tyBool l34) ∷ ‵ (froom MAccepted′.mir l33 0) ∷ ‵ (fdies MAccepted′.mir l33) ∷ ‵ (froom MServo′.mir l32 0) ∷ ‵ (fdies MServo′.mir l32) ∷ ‵ (froom tyBool l31 0) ∷ ‵ (fdies tyBool l31) ∷ ‵ (froom MTold′.mir l30 0) ∷ ‵ (fdies MTold′.mir l30) ∷ ‵ (froom MDelaysWords′.mir l29 0) ∷ ‵ (fdies MDelaysWords′.mir l29) ∷ ‵ (froom MHalvesWords′.mir l28 0) ∷ ‵ (fdies MHalvesWords′.mir l28) ∷ ‵ (froom MEmptied′.mir l27 0) ∷ ‵ (fdies MEmptied′.mir l27) ∷ ‵ (froom tyBool l26 0) ∷ ‵ (fdies tyBool l26) ∷ ‵ (froom MHeld′.mir l25 0) ∷ ‵ (fdies MHeld′.mir l25) ∷ ‵ (fat fullShare MMasterWords′.mir l24 0 w-70) ∷ ‵ (fdies MMasterWords′.mir l24) ∷ ‵ (froom (tyInt w64) l23 0) ∷ ‵ (fdies (tyInt w64) l23) ∷ ‵ (froom tyBool l22 0) ∷ ‵ (fdies tyBool l22) ∷ ‵ (fat fullShare MSeat′.mir l21 0 w-59) ∷ ‵ (fdies MSeat′.mir l21) ∷ ‵ (fat fullShare MLooked′.mir l20 0 w-55) ∷ ‵ (fdies MLooked′.mir l20) ∷ ‵ (fat fullShare MLooked′.mir l19 0 w-50) ∷ ‵ (fdies MLooked′.mir l19) ∷ ‵ (fat fullShare MLooked′.mir l18 0 w-45) ∷ ‵ (fdies MLooked′.mir l18) ∷ ‵ (fat fullShare MLooked′.mir l17 0 w-40) ∷ ‵ (fdies MLooked′.mir l17) ∷ ‵ (fat fullShare MLooked′.mir l16 0 w-35) ∷ ‵ (fdies MLooked′.mir l16) ∷ ‵ (fat fullShare (tyInt w32) l15 0 w-30) ∷ ‵ (fdies (tyInt w32) l15) ∷ ‵ (froom tyBool l14 0) ∷ ‵ (fdies tyBool l14) ∷ ‵ (fat fullShare MStateWords′.mir l13 0 u-28) ∷ ‵ (fdies MStateWords′.mir l13) ∷ ‵ (fat fullShare MSettingsWords′.mir l12 0 u-24) ∷ ‵ (fdies MSettingsWords′.mir l12) ∷ ‵ (froom MMessage′.mir l11 0) ∷ ‵ (fdies MMessage′.mir l11) ∷ ‵ (froom tyBool l10 0) ∷ ‵ (fdies tyBool l10) ∷ ‵ (froom MReceived′.mir l9 0) ∷ ‵ (fdies MReceived′.mir l9) ∷ ‵ (fat fullShare (tyRef (named 5) mut (pointee (R-AnswerWords .written))) l8 0 (vptr b8 o8)) ∷ ‵ (fdies (tyRef (named 5) mut (pointee (R-AnswerWords .written))) l8) ∷ ‵ (froom MStamp′.mir l7 0) ∷ ‵ (fdies MStamp′.mir l7) ∷ ‵ (fat fullShare (tyInt w64) l6 0 u6) ∷ ‵ (fdies (tyInt w64) l6) ∷ ‵ (froom (sliceTy (tyRef (named 4) mut (tyInt w8))) l5 0) ∷ ‵ (fdies (sliceTy (tyRef (named 4) mut (tyInt w8))) l5) ∷ ‵ (fat fullShare (tyRef (named 3) mut (pointee (R-Watch .written))) l4 0 (vptr b4 o4)) ∷ ‵ (fdies (tyRef (named 3) mut (pointee (R-Watch .written))) l4) ∷ ‵ (froom (sliceTy (tyRef (named 2) mut (pointee (R-MasterWords .written)))) l3 0) ∷ ‵ (fdies (sliceTy (tyRef (named 2) mut (pointee (R-MasterWords .written)))) l3) ∷ ‵ (fat fullShare (tyRef (named 1) mut (pointee (R-Servo .written))) l2 0 (vptr b2 o2)) ∷ ‵ (fdies (tyRef (named 1) mut (pointee (R-Servo .written))) l2) ∷ ‵ (fat fullShare (tyRef (named 0) mut (pointee (R-UnitWords .written))) l1 0 (vptr b1 o1)) ∷ ‵ (fdies (tyRef (named 0) mut (pointee (R-UnitWords .written))) l1) ∷ ‵ (froom tyUnit l0 0) ∷ ‵ (fdies tyUnit l0) ∷ []) (runs C Λ En i-15-29 qq)
       from-15-29 qq ee zs-8 len-9 p-4 w-3 e-6 is-7 left1 good u-24 g-25 u-28 g-29 held2 p-31 w-30 e-32 is-33 g-34 p-36 w-35 e-37 is-38 g-39 p-41 w-40 e-42 is-43 g-44 p-46 w-45 e-47 is-48 g-49 p-51 w-50 e-52 is-53 g-54 p-56 w-55 e-57 is-58 p-60 w-59 e-61 is-62 left3 g-69 p-71 w-70 e-72 is-73 =
           use0 W (raw (C-choose 𝓤 H A at-mem run .pre (to-choose (h1 .state) u-28 h6 u6 p-31 w-30 p-60 w-59 p-71 w-70 p-36 w-35 p-41 w-40 p-46 w-45 p-51 w-50 p-56 w-55))) (goes-choose (h1 .state) u-28 g-29 h6 u6 g6 p-31 w-30 is-33 p-60 w-59 is-62 p-71 w-70 is-73 p-36 w-35 is-38 p-41 w-40 is-43 p-46 w-45 is-48 p-51 w-50 is-53 p-56 w-55 is-58) $
-          calls-at ! fm (C-choose 𝓤 H A at-mem run) known-choose (to-choose (h1 .state) u-28 h6 u6 p-31 w-30 p-60 w-59 p-71 w-70 p-36 w-35 p-41 w-40 p-46 w-45 p-51 w-50 p-56 w-55) (and-then ! (load ! (from ! (stop !)) (look ! 118 refl)) (and-then ! (load ! (from ! (stop !)) (look ! 132 refl)) (and-then ! (load ! (from ! (stop !)) (look ! 114 refl)) (and-then ! (load ! (from ! (stop !)) (look ! 102 refl)) (and-then ! (load ! (from ! (stop !)) (look ! 96 refl)) (and-then ! (load ! (from ! (stop !)) (look ! 112 refl)) (and-then ! (load ! (from ! (stop !)) (look ! 110 refl)) (and-then ! (load ! (from ! (stop !)) (look ! 108 refl)) (and-then ! (load ! (from ! (stop !)) (look ! 106 refl)) (and-then ! (load ! (from ! (stop !)) (look ! 104 refl)) (no-more !))))))))))) (λ w-74.
+          calls-at ! fm (C-choose 𝓤 H A at-mem run) known-choose (to-choose (h1 .state) u-28 h6 u6 p-31 w-30 p-60 w-59 p-71 w-70 p-36 w-35 p-41 w-40 p-46 w-45 p-51 w-50 p-56 w-55) (and-then ! (load ! (from ! (stop !)) (look ! 126 refl)) (and-then ! (load ! (from ! (stop !)) (look ! 140 refl)) (and-then ! (load ! (from ! (stop !)) (look ! 122 refl)) (and-then ! (load ! (from ! (stop !)) (look ! 110 refl)) (and-then ! (load ! (from ! (stop !)) (look ! 104 refl)) (and-then ! (load ! (from ! (stop !)) (look ! 120 refl)) (and-then ! (load ! (from ! (stop !)) (look ! 118 refl)) (and-then ! (load ! (from ! (stop !)) (look ! 116 refl)) (and-then ! (load ! (from ! (stop !)) (look ! 114 refl)) (and-then ! (load ! (from ! (stop !)) (look ! 112 refl)) (no-more !))))))))))) (λ w-74.
           use1 W (later (some (λ (p-75 : SHeld.Held). (‵ ftrue ⊛ ‵ (R-Held .own p-75 (w-74 ∷ []))) ⊛ raw (ensured 𝓤 H A f-choose.ended (f-choose.clauses 𝓤 H A at-mem run) tt ((h1 .state), (h6, (p-31, (p-60, (p-71, (p-36, (p-41, (p-46, (p-51, (p-56, tt)))))))))) tt p-75)))) (id⊢ 𝓤 _) $ await ! tt $
           pick ! (λ p-75.
           split ! $
@@ -2261,53 +2261,53 @@ module _ {M : Type 1} (𝓤 : URA M) (H : Heap 𝓤) (A : Atoms 𝓤) (W : Given
           drop ! $
           peeks ! R-Held (Is R-Held) (shows 𝓤 H A R-Held) p-75 (w-74 ∷ []) (λ is-77.
           drop ! $
-          land ! (from ! (stop !)) (init ! 93 refl (lawful-Held 𝓤 H A W .typed p-75 _ is-77 .0)) $
-          rewrite ! 93 (λ (u : Val). ‵ (fat fullShare MHeld′.mir l25 0 u)) ((parts-Held p-75 w-74 is-77) .whole-is) refl $
+          land ! (from ! (stop !)) (init ! 101 refl (lawful-Held 𝓤 H A W .typed p-75 _ is-77 .0)) $
+          rewrite ! 101 (λ (u : Val). ‵ (fat fullShare MHeld′.mir l25 0 u)) ((parts-Held p-75 w-74 is-77) .whole-is) refl $
           move ! (12 ∷ 13 ∷ 8 ∷ []) $
           opens ! tt R-AnswerWords {h = h8} b8 o8 (λ vs-78.
           move ! (1 ∷ []) $
           peeks ! R-AnswerWords (Is R-AnswerWords) (shows 𝓤 H A R-AnswerWords) h8 vs-78 (λ g-79.
           rewrite ! 0 (λ (us : List Val). ‵ (R-AnswerWords .own h8 us)) (lone-AnswerWords h8 vs-78 g-79) refl $
           rewrite ! 1 (λ (us : List Val). ‵ (cellAt fullShare (R-AnswerWords .mir) us b8 o8)) (lone-AnswerWords h8 vs-78 g-79) refl $
-          assigns ! (of-opd ! (load ! (from ! (fld ! {τ = MAnswerWords′.mir} {d = off-Held-0} field-Held-0 (stop !))) (look-in ! 95 (sub ! {ν = name-of MHeld′.mir} {τs = tys-of MHeld′.mir} 0 {τ = MAnswerWords′.mir} {d = off-Held-0} field-Held-0 (whole !))))) (from ! (hop ! (look ! 129 refl) (stop !))) (store-raw ! 1 refl (lawful-AnswerWords 𝓤 H A W .typed (p-75 .answer) _ ((parts-Held p-75 w-74 is-77) .pg0) .0)) $
+          assigns ! (of-opd ! (load ! (from ! (fld ! {τ = MAnswerWords′.mir} {d = off-Held-0} field-Held-0 (stop !))) (look-in ! 103 (sub ! {ν = name-of MHeld′.mir} {τs = tys-of MHeld′.mir} 0 {τ = MAnswerWords′.mir} {d = off-Held-0} field-Held-0 (whole !))))) (from ! (hop ! (look ! 137 refl) (stop !))) (store-raw ! 1 refl (lawful-AnswerWords 𝓤 H A W .typed (p-75 .answer) _ ((parts-Held p-75 w-74 is-77) .pg0) .0)) $
           drop ! $
           owned ! R-AnswerWords (Is R-AnswerWords) (makes-AnswerWords 𝓤 H A W) (p-75 .answer) _ ((parts-Held p-75 w-74 is-77) .pg0) $
           move ! (1 ∷ 0 ∷ 2 ∷ 3 ∷ 4 ∷ []) $
           closes ! tt R-AnswerWords (p-75 .answer) (((parts-Held p-75 w-74 is-77) .pu0) ∷ []) b8 o8 $
-          forget ! 131 refl $ forget ! 127 refl $ forget ! 117 refl $ forget ! 113 refl $ forget ! 111 refl $ forget ! 109 refl $ forget ! 107 refl $ forget ! 105 refl $ forget ! 103 refl $ forget ! 101 refl $ forget ! 95 refl $
+          forget ! 139 refl $ forget ! 135 refl $ forget ! 125 refl $ forget ! 121 refl $ forget ! 119 refl $ forget ! 117 refl $ forget ! 115 refl $ forget ! 113 refl $ forget ! 111 refl $ forget ! 109 refl $ forget ! 103 refl $
           from-15-31 qq ee zs-8 len-9 p-4 w-3 e-6 is-7 left1 good u-24 g-25 u-28 g-29 held2 p-31 w-30 e-32 is-33 g-34 p-36 w-35 e-37 is-38 g-39 p-41 w-40 e-42 is-43 g-44 p-46 w-45 e-47 is-48 g-49 p-51 w-50 e-52 is-53 g-54 p-56 w-55 e-57 is-58 p-60 w-59 e-61 is-62 left3 g-69 p-71 w-70 e-72 is-73 p-75 w-74 e-76 is-77))))))
 
-      from-15-26 : (qq : Kit-Post 𝓤 H) (ee : post 𝓤 H qq returnsᴼ ≡ atReturn 𝓤 H En Post returnsᴼ) (zs-8 : List ℕ) (len-9 : length zs-8 ≡ length h5) (p-4 : SReceived.Received) (w-3 : Val) (e-6 : (p-4 ≡ receivedBy (readOf h5)) × (zs-8 ≡ h5)) (is-7 : Is R-Received p-4 (w-3 ∷ [])) (left1 : Holds (not (p-4 .barred))) (good : Holds (not (not (eqb (length h3) 5)))) (u-24 : Val) (g-25 : Is R-SettingsWords (h1 .settings) (u-24 ∷ [])) (u-28 : Val) (g-29 : Is R-StateWords (h1 .state) (u-28 ∷ [])) (held2 : Holds (p-4 .announces)) (p-31 : ℕ) (w-30 : Val) (e-32 : p-31 ≡ intervalOf ((h1 .settings) .announce)) (is-33 : Is R-u32 p-31 (w-30 ∷ [])) (g-34 : Is R-MasterWords (el 0) (v-MasterWords (el 0))) (p-36 : SLooked.Looked) (w-35 : Val) (e-37 : p-36 ≡ lookedOf (p-4 .message) h6 p-31 (recordIn (el 0))) (is-38 : Is R-Looked p-36 (w-35 ∷ [])) (g-39 : Is R-MasterWords (el 1) (v-MasterWords (el 1))) (p-41 : SLooked.Looked) (w-40 : Val) (e-42 : p-41 ≡ lookedOf (p-4 .message) h6 p-31 (recordIn (el 1))) (is-43 : Is R-Looked p-41 (w-40 ∷ [])) (g-44 : Is R-MasterWords (el 2) (v-MasterWords (el 2))) (p-46 : SLooked.Looked) (w-45 : Val) (e-47 : p-46 ≡ lookedOf (p-4 .message) h6 p-31 (recordIn (el 2))) (is-48 : Is R-Looked p-46 (w-45 ∷ [])) (g-49 : Is R-MasterWords (el 3) (v-MasterWords (el 3))) (p-51 : SLooked.Looked) (w-50 : Val) (e-52 : p-51 ≡ lookedOf (p-4 .message) h6 p-31 (recordIn (el 3))) (is-53 : Is R-Looked p-51 (w-50 ∷ [])) (g-54 : Is R-MasterWords (el 4) (v-MasterWords (el 4))) (p-56 : SLooked.Looked) (w-55 : Val) (e-57 : p-56 ≡ lookedOf (p-4 .message) h6 p-31 (recordIn (el 4))) (is-58 : Is R-Looked p-56 (w-55 ∷ [])) (p-60 : SSeat.Seat) (w-59 : Val) (e-61 : p-60 ≡ seatBy (h1 .settings) (h1 .state) (p-4 .message) h6 (p-36 .standing) (p-41 .standing) (p-46 .standing) (p-51 .standing) (p-56 .standing)) (is-62 : Is R-Seat p-60 (w-59 ∷ [])) (left3 : Holds (not (p-60 .barred))) (g-69 : Is R-MasterWords (el (p-60 .at)) (v-MasterWords (el (p-60 .at)))) (p-71 : SMasterWords.MasterWords) (w-70 : Val) (e-72 : p-71 ≡ placedOf (el (p-60 .at)) (p-4 .message) (p-60 .known) h6) (is-73 : Is R-MasterWords p-71 (w-70 ∷ [])) → Sq W (‵ (fobs γ3 (codedHoleys R-MasterWords .code (heres R-MasterWords h3))) ∷ ‵ (fbor κ3 (Held R-MasterWords (length h3) b3 o3 γ3)) ∷ ‵ (flft κ3 q3) ∷ ‵ (fobs γ1 (R-UnitWords .coded .code h1)) ∷ ‵ (fbor κ1 (Body (mem R-UnitWords) b1 o1 γ1)) ∷ ‵ (flft κ1 q1) ∷ ‵ (MutSlice (named 4) κ5 R-u8 .own (x5 zs-8) ((sliceVal (b5, o5) (length h5)) ∷ [])) ∷ ‵ (flft κ5 q5) ∷ ‵ (flft κ8 q8) ∷ ‵ (flft κ4 q4) ∷ ‵ (flft κ2 q2) ∷ ‵ (ftrue) ∷ ‵ (fobs γ8 (R-AnswerWords .coded .code h8)) ∷ ‵ (fbor κ8 (Body (mem R-AnswerWords) b8 o8 γ8)) ∷ ‵ (R-Stamp .own h7 (u7 ∷ [])) ∷ ‵ (R-u64 .own h6 (u6 ∷ [])) ∷ ‵ (fobs γ4 (R-Watch .coded .code h4)) ∷ ‵ (fbor κ4 (Body (mem R-Watch) b4 o4 γ4)) ∷ ‵ (at-slice R-MasterWords (x3 h3) ((sliceVal (b3, o3) (length h3)) ∷ [])) ∷ ‵ (fobs γ2 (R-Servo .coded .code h2)) ∷ ‵ (fbor κ2 (Body (mem R-Servo) b2 o2 γ2)) ∷ ‵ (froom (tyRef erased mut (pointee (R-u8x128 .written))) l61 0) ∷ ‵ (fdies (tyRef erased mut (pointee (R-u8x128 .written))) l61) ∷ ‵ (froom (tyRef erased mut (pointee (R-i32x128 .written))) l60 0) ∷ ‵ (fdies (tyRef erased mut (pointee (R-i32x128 .written))) l60) ∷ ‵ (froom (tyRef erased mut (pointee (R-i64x128 .written))) l59 0) ∷ ‵ (fdies (tyRef erased mut (pointee (R-i64x128 .written))) l59) ∷ ‵ (froom MHead′.mir l58 0) ∷ ‵ (fdies MHead′.mir l58) ∷ ‵ (froom MAnswerWords′.mir l57 0) ∷ ‵ (fdies MAnswerWords′.mir l57) ∷ ‵ (froom MAnswerWords′.mir l56 0) ∷ ‵ (fdies MAnswerWords′.mir l56) ∷ ‵ (froom (tyRef erased mut (pointee (R-u8x128 .written))) l55 0) ∷ ‵ (fdies (tyRef erased mut (pointee (R-u8x128 .written))) l55) ∷ ‵ (froom (tyRef erased mut (pointee (R-i32x128 .written))) l54 0) ∷ ‵ (fdies (tyRef erased mut (pointee (R-i32x128 .written))) l54) ∷ ‵ (froom (tyRef erased mut (pointee (R-i64x128 .written))) l53 0) ∷ ‵ (fdies (tyRef erased mut (pointee (R-i64x128 .written))) l53) ∷ ‵ (froom MHead′.mir l52 0) ∷ ‵ (fdies MHead′.mir l52) ∷ ‵ (froom tyPtr l51 0) ∷ ‵ (fdies tyPtr l51) ∷ ‵ (froom tyPtr l50 0) ∷ ‵ (fdies tyPtr l50) ∷ ‵ (froom (tyInt w64) l49 0) ∷ ‵ (fdies (tyInt w64) l49) ∷ ‵ (froom MAnswerWords′.mir l48 0) ∷ ‵ (fdies MAnswerWords′.mir l48) ∷ ‵ (froom tyBool l47 0) ∷ ‵ (fdies tyBool l47) ∷ ‵ (froom tyPtr l46 0) ∷ ‵ (fdies tyPtr l46) ∷ ‵ (froom tyPtr l45 0) ∷ ‵ (fdies tyPtr l45) ∷ ‵ (froom tyPtr l44 0) ∷ ‵ (fdies tyPtr l44) ∷ ‵ (froom tyPtr l43 0) ∷ ‵ (fdies tyPtr l43) ∷ ‵ (froom MMasterWords′.mir l42 0) ∷ ‵ (fdies MMasterWords′.mir l42) ∷ ‵ (froom tyPtr l41 0) ∷ ‵ (fdies tyPtr l41) ∷ ‵ (froom MAnswerWords′.mir l40 0) ∷ ‵ (fdies MAnswerWords′.mir l40) ∷ ‵ (froom (tyInt w64) l39 0) ∷ ‵ (fdies (tyInt w64) l39) ∷ ‵ (froom MAnswerWords′.mir l38 0) ∷ ‵ (fdies MAnswerWords′.mir l38) ∷ ‵ (froom tyBool l37 0) ∷ ‵ (fdies tyBool l37) ∷ ‵ (froom (sliceTy (tyRef erased mut (tyInt w8))) l36 0) ∷ ‵ (fdies (sliceTy (tyRef erased mut (tyInt w8))) l36) ∷ ‵ (froom (tyRef erased mut (tyInt w8)) l35 0) ∷ ‵ (fdies (tyRef erased mut (tyInt w8)) l35) ∷ ‵ (froom tyBool l34 0) ∷ ‵ (fdies tyBool l34) ∷ ‵ (froom MServo′.mir l33 0) ∷ ‵ (fdies MServo′.mir l33) ∷ ‵ (froom MServo′.mir l32 0) ∷ ‵ (fdies MServo′.mir l32) ∷ ‵ (froom tyBool l31 0) ∷ ‵ (fdies tyBool l31) ∷ ‵ (froom MTold′.mir l30 0) ∷ ‵ (fdies MTold′.mir l30) ∷ ‵ (froom MDelaysWords′.mir l29 0) ∷ ‵ (fdies MDelaysWords′.mir l29) ∷ ‵ (froom MHalvesWords′.mir l28 0) ∷ ‵ (fdies MHalvesWords′.mir l28) ∷ ‵ (froom MEmptied′.mir l27 0) ∷ ‵ (fdies MEmptied′.mir l27) ∷ ‵ (froom tyBool l26 0) ∷ ‵ (fdies tyBool l26) ∷ ‵ (froom MHeld′.mir l25 0) ∷ ‵ (fdies MHeld′.mir l25) ∷ ‵ (fat fullShare MMasterWords′.mir l24 0 w-70) ∷ ‵ (fdies MMasterWords′.mir l24) ∷ ‵ (fat fullShare (tyInt w64) l23 0 (vint w64 (p-60 .at))) ∷ ‵ (fdies (tyInt w64) l23) ∷ ‵ (froom tyBool l22 0) ∷ ‵ (fdies tyBool l22) ∷ ‵ (fat fullShare MSeat′.mir l21 0 w-59) ∷ ‵ (fdies MSeat′.mir l21) ∷ ‵ (fat fullShare MLooked′.mir l20 0 w-55) ∷ ‵ (fdies MLooked′.mir l20) ∷ ‵ (fat fullShare MLooked′.mir l19 0 w-50) ∷ ‵ (fdies MLooked′.mir l19) ∷ ‵ (fat fullShare MLooked′.mir l18 0 w-45) ∷ ‵ (fdies MLooked′.mir l18) ∷ ‵ (fat fullShare MLooked′.mir l17 0 w-40) ∷ ‵ (fdies MLooked′.mir l17) ∷ ‵ (fat fullShare MLooked′.mir l16 0 w-35) ∷ ‵ (fdies MLooked′.mir l16) ∷ ‵ (fat fullShare (tyInt w32) l15 0 w-30) ∷ ‵ (fdies (tyInt w32) l15) ∷ ‵ (froom tyBool l14 0) ∷ ‵ (fdies tyBool l14) ∷ ‵ (fat fullShare MStateWords′.mir l13 0 u-28) ∷ ‵ (fdies MStateWords′.mir l13) ∷ ‵ (fat fullShare MSettingsWords′.mir l12 0 u-24) ∷ ‵ (fdies MSettingsWords′.mir l12) ∷ ‵ (froom MMessage′.mir l11 0) ∷ ‵ (fdies MMessage′.mir l11) ∷ ‵ (froom tyBool l10 0) ∷ ‵ (fdies tyBool l10) ∷ ‵ (froom MReceived′.mir l9 0) ∷ ‵ (fdies MReceived′.mir l9) ∷ ‵ (fat fullShare (tyRef (named 5) mut (pointee (R-AnswerWords .written))) l8 0 (vptr b8 o8)) ∷ ‵ (fdies (tyRef (named 5) mut (pointee (R-AnswerWords .written))) l8) ∷ ‵ (froom MStamp′.mir l7 0) ∷ ‵ (fdies MStamp′.mir l7) ∷ ‵ (fat fullShare (tyInt w64) l6 0 u6) ∷ ‵ (fdies (tyInt w64) l6) ∷ ‵ (froom (sliceTy (tyRef (named 4) mut (tyInt w8))) l5 0) ∷ ‵ (fdies (sliceTy (tyRef (named 4) mut (tyInt w8))) l5) ∷ ‵ (fat fullShare (tyRef (named 3) mut (pointee (R-Watch .written))) l4 0 (vptr b4 o4)) ∷ ‵ (fdies (tyRef (named 3) mut (pointee (R-Watch .written))) l4) ∷ ‵ (fat fullShare (sliceTy (tyRef (named 2) mut (pointee (R-MasterWords .written)))) l3 0 (sliceVal (b3, o3) (length h3))) ∷ ‵ (fdies (sliceTy (tyRef (named 2) mut (pointee (R-MasterWords .written)))) l3) ∷ ‵ (fat fullShare (tyRef (named 1) mut (pointee (R-Servo .written))) l2 0 (vptr b2 o2)) ∷ ‵ (fdies (tyRef (named 1) mut (pointee (R-Servo .written))) l2) ∷ ‵ (fat fullShare (tyRef (named 0) mut (pointee (R-UnitWords .written))) l1 0 (vptr b1 o1)) ∷ ‵ (fdies (tyRef (named 0) mut (pointee (R-UnitWords .written))) l1) ∷ ‵ (froom tyUnit l0 0) ∷ ‵ (fdies tyUnit l0) ∷ []) (runs C Λ En i-15-26 qq)
+      from-15-26 : (qq : Kit-Post 𝓤 H) (ee : post 𝓤 H qq returnsᴼ ≡ atReturn 𝓤 H En Post returnsᴼ) (zs-8 : List ℕ) (len-9 : length zs-8 ≡ length h5) (p-4 : SReceived.Received) (w-3 : Val) (e-6 : (p-4 ≡ receivedBy (readOf h5)) × (zs-8 ≡ h5)) (is-7 : Is R-Received p-4 (w-3 ∷ [])) (left1 : Holds (not (p-4 .barred))) (good : Holds (not (not (eqb (length h3) 5)))) (u-24 : Val) (g-25 : Is R-SettingsWords (h1 .settings) (u-24 ∷ [])) (u-28 : Val) (g-29 : Is R-StateWords (h1 .state) (u-28 ∷ [])) (held2 : Holds (p-4 .announces)) (p-31 : ℕ) (w-30 : Val) (e-32 : p-31 ≡ intervalOf ((h1 .settings) .announce)) (is-33 : Is R-u32 p-31 (w-30 ∷ [])) (g-34 : Is R-MasterWords (el 0) (v-MasterWords (el 0))) (p-36 : SLooked.Looked) (w-35 : Val) (e-37 : p-36 ≡ lookedOf (p-4 .message) h6 p-31 (recordIn (el 0))) (is-38 : Is R-Looked p-36 (w-35 ∷ [])) (g-39 : Is R-MasterWords (el 1) (v-MasterWords (el 1))) (p-41 : SLooked.Looked) (w-40 : Val) (e-42 : p-41 ≡ lookedOf (p-4 .message) h6 p-31 (recordIn (el 1))) (is-43 : Is R-Looked p-41 (w-40 ∷ [])) (g-44 : Is R-MasterWords (el 2) (v-MasterWords (el 2))) (p-46 : SLooked.Looked) (w-45 : Val) (e-47 : p-46 ≡ lookedOf (p-4 .message) h6 p-31 (recordIn (el 2))) (is-48 : Is R-Looked p-46 (w-45 ∷ [])) (g-49 : Is R-MasterWords (el 3) (v-MasterWords (el 3))) (p-51 : SLooked.Looked) (w-50 : Val) (e-52 : p-51 ≡ lookedOf (p-4 .message) h6 p-31 (recordIn (el 3))) (is-53 : Is R-Looked p-51 (w-50 ∷ [])) (g-54 : Is R-MasterWords (el 4) (v-MasterWords (el 4))) (p-56 : SLooked.Looked) (w-55 : Val) (e-57 : p-56 ≡ lookedOf (p-4 .message) h6 p-31 (recordIn (el 4))) (is-58 : Is R-Looked p-56 (w-55 ∷ [])) (p-60 : SSeat.Seat) (w-59 : Val) (e-61 : p-60 ≡ seatBy (h1 .settings) (h1 .state) (p-4 .message) h6 (p-36 .standing) (p-41 .standing) (p-46 .standing) (p-51 .standing) (p-56 .standing)) (is-62 : Is R-Seat p-60 (w-59 ∷ [])) (left3 : Holds (not (p-60 .barred))) (g-69 : Is R-MasterWords (el (p-60 .at)) (v-MasterWords (el (p-60 .at)))) (p-71 : SMasterWords.MasterWords) (w-70 : Val) (e-72 : p-71 ≡ placedOf (el (p-60 .at)) (p-4 .message) (p-60 .known) h6) (is-73 : Is R-MasterWords p-71 (w-70 ∷ [])) → Sq W (‵ (fobs γ3 (codedHoleys R-MasterWords .code (heres R-MasterWords h3))) ∷ ‵ (fbor κ3 (Held R-MasterWords (length h3) b3 o3 γ3)) ∷ ‵ (flft κ3 q3) ∷ ‵ (fobs γ1 (R-UnitWords .coded .code h1)) ∷ ‵ (fbor κ1 (Body (mem R-UnitWords) b1 o1 γ1)) ∷ ‵ (flft κ1 q1) ∷ ‵ (MutSlice (named 4) κ5 R-u8 .own (x5 zs-8) ((sliceVal (b5, o5) (length h5)) ∷ [])) ∷ ‵ (flft κ5 q5) ∷ ‵ (flft κ8 q8) ∷ ‵ (flft κ4 q4) ∷ ‵ (flft κ2 q2) ∷ ‵ (ftrue) ∷ ‵ (fobs γ8 (R-AnswerWords .coded .code h8)) ∷ ‵ (fbor κ8 (Body (mem R-AnswerWords) b8 o8 γ8)) ∷ ‵ (R-Stamp .own h7 (u7 ∷ [])) ∷ ‵ (R-u64 .own h6 (u6 ∷ [])) ∷ ‵ (fobs γ4 (R-Watch .coded .code h4)) ∷ ‵ (fbor κ4 (Body (mem R-Watch) b4 o4 γ4)) ∷ ‵ (at-slice R-MasterWords (x3 h3) ((sliceVal (b3, o3) (length h3)) ∷ [])) ∷ ‵ (fobs γ2 (R-Servo .coded .code h2)) ∷ ‵ (fbor κ2 (Body (mem R-Servo) b2 o2 γ2)) ∷ ‵ (froom (tyRef erased mut (pointee (R-u8x128 .written))) l65 0) ∷ ‵ (fdies (tyRef erased mut (pointee (R-u8x128 .written))) l65) ∷ ‵ (froom (tyRef erased mut (pointee (R-i32x128 .written))) l64 0) ∷ ‵ (fdies (tyRef erased mut (pointee (R-i32x128 .written))) l64) ∷ ‵ (froom (tyRef erased mut (pointee (R-i64x128 .written))) l63 0) ∷ ‵ (fdies (tyRef erased mut (pointee (R-i64x128 .written))) l63) ∷ ‵ (froom MHead′.mir l62 0) ∷ ‵ (fdies MHead′.mir l62) ∷ ‵ (froom MAnswerWords′.mir l61 0) ∷ ‵ (fdies MAnswerWords′.mir l61) ∷ ‵ (froom MAnswerWords′.mir l60 0) ∷ ‵ (fdies MAnswerWords′.mir l60) ∷ ‵ (froom (tyRef erased mut (pointee (R-u8x128 .written))) l59 0) ∷ ‵ (fdies (tyRef erased mut (pointee (R-u8x128 .written))) l59) ∷ ‵ (froom (tyRef erased mut (pointee (R-i32x128 .written))) l58 0) ∷ ‵ (fdies (tyRef erased mut (pointee (R-i32x128 .written))) l58) ∷ ‵ (froom (tyRef erased mut (pointee (R-i64x128 .written))) l57 0) ∷ ‵ (fdies (tyRef erased mut (pointee (R-i64x128 .written))) l57) ∷ ‵ (froom MHead′.mir l56 0) ∷ ‵ (fdies MHead′.mir l56) ∷ ‵ (froom tyPtr l55 0) ∷ ‵ (fdies tyPtr l55) ∷ ‵ (froom tyPtr l54 0) ∷ ‵ (fdies tyPtr l54) ∷ ‵ (froom (tyInt w64) l53 0) ∷ ‵ (fdies (tyInt w64) l53) ∷ ‵ (froom MAnswerWords′.mir l52 0) ∷ ‵ (fdies MAnswerWords′.mir l52) ∷ ‵ (froom tyBool l51 0) ∷ ‵ (fdies tyBool l51) ∷ ‵ (froom tyPtr l50 0) ∷ ‵ (fdies tyPtr l50) ∷ ‵ (froom tyPtr l49 0) ∷ ‵ (fdies tyPtr l49) ∷ ‵ (froom tyPtr l48 0) ∷ ‵ (fdies tyPtr l48) ∷ ‵ (froom tyPtr l47 0) ∷ ‵ (fdies tyPtr l47) ∷ ‵ (froom MMasterWords′.mir l46 0) ∷ ‵ (fdies MMasterWords′.mir l46) ∷ ‵ (froom tyPtr l45 0) ∷ ‵ (fdies tyPtr l45) ∷ ‵ (froom MAnswerWords′.mir l44 0) ∷ ‵ (fdies MAnswerWords′.mir l44) ∷ ‵ (froom (tyInt w64) l43 0) ∷ ‵ (fdies (tyInt w64) l43) ∷ ‵ (froom MAnswerWords′.mir l42 0) ∷ ‵ (fdies MAnswerWords′.mir l42) ∷ ‵ (froom tyBool l41 0) ∷ ‵ (fdies tyBool l41) ∷ ‵ (froom (sliceTy (tyRef erased mut (tyInt w8))) l40 0) ∷ ‵ (fdies (sliceTy (tyRef erased mut (tyInt w8))) l40) ∷ ‵ (froom (tyRef erased mut (tyInt w8)) l39 0) ∷ ‵ (fdies (tyRef erased mut (tyInt w8)) l39) ∷ ‵ (froom (tyInt w16) l38 0) ∷ ‵ (fdies (tyInt w16) l38) ∷ ‵ (froom (tyInt w8) l37 0) ∷ ‵ (fdies (tyInt w8) l37) ∷ ‵ (froom MServo′.mir l36 0) ∷ ‵ (fdies MServo′.mir l36) ∷ ‵ (froom tyBool l35 0) ∷ ‵ (fdies tyBool l35) ∷ ‵ (froom tyBool l34 0) ∷ ‵ (fdies tyBool l34) ∷ ‵ (froom MAccepted′.mir l33 0) ∷ ‵ (fdies MAccepted′.mir l33) ∷ ‵ (froom MServo′.mir l32 0) ∷ ‵ (fdies MServo′.mir l32) ∷ ‵ (froom tyBool l31 0) ∷ ‵ (fdies tyBool l31) ∷ ‵ (froom MTold′.mir l30 0) ∷ ‵ (fdies MTold′.mir l30) ∷ ‵ (froom MDelaysWords′.mir l29 0) ∷ ‵ (fdies MDelaysWords′.mir l29) ∷ ‵ (froom MHalvesWords′.mir l28 0) ∷ ‵ (fdies MHalvesWords′.mir l28) ∷ ‵ (froom MEmptied′.mir l27 0) ∷ ‵ (fdies MEmptied′.mir l27) ∷ ‵ (froom tyBool l26 0) ∷ ‵ (fdies tyBool l26) ∷ ‵ (froom MHeld′.mir l25 0) ∷ ‵ (fdies MHeld′.mir l25) ∷ ‵ (fat fullShare MMasterWords′.mir l24 0 w-70) ∷ ‵ (fdies MMasterWords′.mir l24) ∷ ‵ (fat fullShare (tyInt w64) l23 0 (vint w64 (p-60 .at))) ∷ ‵ (fdies (tyInt w64) l23) ∷ ‵ (froom tyBool l22 0) ∷ ‵ (fdies tyBool l22) ∷ ‵ (fat fullShare MSeat′.mir l21 0 w-59) ∷ ‵ (fdies MSeat′.mir l21) ∷ ‵ (fat fullShare MLooked′.mir l20 0 w-55) ∷ ‵ (fdies MLooked′.mir l20) ∷ ‵ (fat fullShare MLooked′.mir l19 0 w-50) ∷ ‵ (fdies MLooked′.mir l19) ∷ ‵ (fat fullShare MLooked′.mir l18 0 w-45) ∷ ‵ (fdies MLooked′.mir l18) ∷ ‵ (fat fullShare MLooked′.mir l17 0 w-40) ∷ ‵ (fdies MLooked′.mir l17) ∷ ‵ (fat fullShare MLooked′.mir l16 0 w-35) ∷ ‵ (fdies MLooked′.mir l16) ∷ ‵ (fat fullShare (tyInt w32) l15 0 w-30) ∷ ‵ (fdies (tyInt w32) l15) ∷ ‵ (froom tyBool l14 0) ∷ ‵ (fdies tyBool l14) ∷ ‵ (fat fullShare MStateWords′.mir l13 0 u-28) ∷ ‵ (fdies MStateWords′.mir l13) ∷ ‵ (fat fullShare MSettingsWords′.mir l12 0 u-24) ∷ ‵ (fdies MSettingsWords′.mir l12) ∷ ‵ (froom MMessage′.mir l11 0) ∷ ‵ (fdies MMessage′.mir l11) ∷ ‵ (froom tyBool l10 0) ∷ ‵ (fdies tyBool l10) ∷ ‵ (froom MReceived′.mir l9 0) ∷ ‵ (fdies MReceived′.mir l9) ∷ ‵ (fat fullShare (tyRef (named 5) mut (pointee (R-AnswerWords .written))) l8 0 (vptr b8 o8)) ∷ ‵ (fdies (tyRef (named 5) mut (pointee (R-AnswerWords .written))) l8) ∷ ‵ (froom MStamp′.mir l7 0) ∷ ‵ (fdies MStamp′.mir l7) ∷ ‵ (fat fullShare (tyInt w64) l6 0 u6) ∷ ‵ (fdies (tyInt w64) l6) ∷ ‵ (froom (sliceTy (tyRef (named 4) mut (tyInt w8))) l5 0) ∷ ‵ (fdies (sliceTy (tyRef (named 4) mut (tyInt w8))) l5) ∷ ‵ (fat fullShare (tyRef (named 3) mut (pointee (R-Watch .written))) l4 0 (vptr b4 o4)) ∷ ‵ (fdies (tyRef (named 3) mut (pointee (R-Watch .written))) l4) ∷ ‵ (fat fullShare (sliceTy (tyRef (named 2) mut (pointee (R-MasterWords .written)))) l3 0 (sliceVal (b3, o3) (length h3))) ∷ ‵ (fdies (sliceTy (tyRef (named 2) mut (pointee (R-MasterWords .written)))) l3) ∷ ‵ (fat fullShare (tyRef (named 1) mut (pointee (R-Servo .written))) l2 0 (vptr b2 o2)) ∷ ‵ (fdies (tyRef (named 1) mut (pointee (R-Servo .written))) l2) ∷ ‵ (fat fullShare (tyRef (named 0) mut (pointee (R-UnitWords .written))) l1 0 (vptr b1 o1)) ∷ ‵ (fdies (tyRef (named 0) mut (pointee (R-UnitWords .written))) l1) ∷ ‵ (froom tyUnit l0 0) ∷ ‵ (fdies tyUnit l0) ∷ []) (runs C Λ En i-15-26 qq)
       from-15-26 qq ee zs-8 len-9 p-4 w-3 e-6 is-7 left1 good u-24 g-25 u-28 g-29 held2 p-31 w-30 e-32 is-33 g-34 p-36 w-35 e-37 is-38 g-39 p-41 w-40 e-42 is-43 g-44 p-46 w-45 e-47 is-48 g-49 p-51 w-50 e-52 is-53 g-54 p-56 w-55 e-57 is-58 p-60 w-59 e-61 is-62 left3 g-69 p-71 w-70 e-72 is-73 =
-          assigns ! (bin ! (load ! (from ! (stop !)) (look ! 97 refl)) (lit ! tt) (record { fits = small-place (length h3) (p-60 .at) (subst (λ (m : ℕ). (p-60 .at) < m) (sym (is-N good)) (subst (λ (d : SSeat.Seat). d .at < 5) (sym e-61) (seat-within (h1 .settings) (h1 .state) (p-4 .message) h6 (p-36 .standing) (p-41 .standing) (p-46 .standing) (p-51 .standing) (p-56 .standing)))) (room3 .1) })) (from ! (stop !)) (init ! 45 refl (tt, (record { fits = small-place (length h3) (p-60 .at) (subst (λ (m : ℕ). (p-60 .at) < m) (sym (is-N good)) (subst (λ (d : SSeat.Seat). d .at < 5) (sym e-61) (seat-within (h1 .settings) (h1 .state) (p-4 .message) h6 (p-36 .standing) (p-41 .standing) (p-46 .standing) (p-51 .standing) (p-56 .standing)))) (room3 .1) }))) $
+          assigns ! (bin ! (load ! (from ! (stop !)) (look ! 105 refl)) (lit ! tt) (record { fits = small-place (length h3) (p-60 .at) (subst (λ (m : ℕ). (p-60 .at) < m) (sym (is-N good)) (subst (λ (d : SSeat.Seat). d .at < 5) (sym e-61) (seat-within (h1 .settings) (h1 .state) (p-4 .message) h6 (p-36 .standing) (p-41 .standing) (p-46 .standing) (p-51 .standing) (p-56 .standing)))) (room3 .1) })) (from ! (stop !)) (init ! 45 refl (tt, (record { fits = small-place (length h3) (p-60 .at) (subst (λ (m : ℕ). (p-60 .at) < m) (sym (is-N good)) (subst (λ (d : SSeat.Seat). d .at < 5) (sym e-61) (seat-within (h1 .settings) (h1 .state) (p-4 .message) h6 (p-36 .standing) (p-41 .standing) (p-46 .standing) (p-51 .standing) (p-56 .standing)))) (room3 .1) }))) $
           opens-slice ! tt R-MasterWords h3 b3 o3 $
-          assigns ! (bin ! (load ! (from ! (fld ! refl (stop !))) (look-in ! 138 (sub ! 0 refl (whole !)))) (load ! (from ! (stop !)) (look ! 46 refl)) tt) (from ! (stop !)) (init ! 42 refl (tt, tt)) $
-          rewrite ! 42 (λ (p : ℕ). ‵ (fat fullShare tyPtr l51 0 (vptr b3 p))) (sym (place-is 96 o3 (p-60 .at))) refl $
+          assigns ! (bin ! (load ! (from ! (fld ! refl (stop !))) (look-in ! 146 (sub ! 0 refl (whole !)))) (load ! (from ! (stop !)) (look ! 46 refl)) tt) (from ! (stop !)) (init ! 42 refl (tt, tt)) $
+          rewrite ! 42 (λ (p : ℕ). ‵ (fat fullShare tyPtr l55 0 (vptr b3 p))) (sym (place-is 96 o3 (p-60 .at))) refl $
           elem-out ! R-MasterWords (Is R-MasterWords) (shows 𝓤 H A R-MasterWords) v-MasterWords tells-MasterWords fullShare h3 (p-60 .at) noMaster b3 o3 (subst (λ (m : ℕ). (p-60 .at) < m) (sym (refl ∙ is-N good)) (subst (λ (d : SSeat.Seat). d .at < 5) (sym e-61) (seat-within (h1 .settings) (h1 .state) (p-4 .message) h6 (p-36 .standing) (p-41 .standing) (p-46 .standing) (p-51 .standing) (p-56 .standing)))) (λ _.
-          assigns ! (of-opd ! (load ! (from ! (stop !)) (look ! 98 refl))) (from ! (hop ! (look ! 44 refl) (stop !))) (store-raw ! 0 refl (lawful-MasterWords 𝓤 H A W .typed p-71 _ is-73 .0)) $
+          assigns ! (of-opd ! (load ! (from ! (stop !)) (look ! 106 refl))) (from ! (hop ! (look ! 44 refl) (stop !))) (store-raw ! 0 refl (lawful-MasterWords 𝓤 H A W .typed p-71 _ is-73 .0)) $
           move ! (1 ∷ []) $
           drop ! $
           owned ! R-MasterWords (Is R-MasterWords) (makes-MasterWords 𝓤 H A W) p-71 _ is-73 $
           move ! (1 ∷ 0 ∷ 2 ∷ []) $
           elem-put ! R-MasterWords fullShare h3 (p-60 .at) p-71 (w-70 ∷ []) b3 o3 (subst (λ (m : ℕ). (p-60 .at) < m) (sym (refl ∙ is-N good)) (subst (λ (d : SSeat.Seat). d .at < 5) (sym e-61) (seat-within (h1 .settings) (h1 .state) (p-4 .message) h6 (p-36 .standing) (p-41 .standing) (p-46 .standing) (p-51 .standing) (p-56 .standing)))) $
           closes-slice ! tt R-MasterWords h3 (set h3 (p-60 .at) p-71) (length-set h3 (p-60 .at) p-71) b3 o3 $
-          forget ! 137 refl $ forget ! 97 refl $ forget ! 45 refl $ forget ! 41 refl $
+          forget ! 145 refl $ forget ! 105 refl $ forget ! 45 refl $ forget ! 41 refl $
           from-15-29 qq ee zs-8 len-9 p-4 w-3 e-6 is-7 left1 good u-24 g-25 u-28 g-29 held2 p-31 w-30 e-32 is-33 g-34 p-36 w-35 e-37 is-38 g-39 p-41 w-40 e-42 is-43 g-44 p-46 w-45 e-47 is-48 g-49 p-51 w-50 e-52 is-53 g-54 p-56 w-55 e-57 is-58 p-60 w-59 e-61 is-62 left3 g-69 p-71 w-70 e-72 is-73)
 
-      from-15-21 : (qq : Kit-Post 𝓤 H) (ee : post 𝓤 H qq returnsᴼ ≡ atReturn 𝓤 H En Post returnsᴼ) (zs-8 : List ℕ) (len-9 : length zs-8 ≡ length h5) (p-4 : SReceived.Received) (w-3 : Val) (e-6 : (p-4 ≡ receivedBy (readOf h5)) × (zs-8 ≡ h5)) (is-7 : Is R-Received p-4 (w-3 ∷ [])) (left1 : Holds (not (p-4 .barred))) (good : Holds (not (not (eqb (length h3) 5)))) (u-24 : Val) (g-25 : Is R-SettingsWords (h1 .settings) (u-24 ∷ [])) (u-28 : Val) (g-29 : Is R-StateWords (h1 .state) (u-28 ∷ [])) (held2 : Holds (p-4 .announces)) (p-31 : ℕ) (w-30 : Val) (e-32 : p-31 ≡ intervalOf ((h1 .settings) .announce)) (is-33 : Is R-u32 p-31 (w-30 ∷ [])) (g-34 : Is R-MasterWords (el 0) (v-MasterWords (el 0))) (p-36 : SLooked.Looked) (w-35 : Val) (e-37 : p-36 ≡ lookedOf (p-4 .message) h6 p-31 (recordIn (el 0))) (is-38 : Is R-Looked p-36 (w-35 ∷ [])) (g-39 : Is R-MasterWords (el 1) (v-MasterWords (el 1))) (p-41 : SLooked.Looked) (w-40 : Val) (e-42 : p-41 ≡ lookedOf (p-4 .message) h6 p-31 (recordIn (el 1))) (is-43 : Is R-Looked p-41 (w-40 ∷ [])) (g-44 : Is R-MasterWords (el 2) (v-MasterWords (el 2))) (p-46 : SLooked.Looked) (w-45 : Val) (e-47 : p-46 ≡ lookedOf (p-4 .message) h6 p-31 (recordIn (el 2))) (is-48 : Is R-Looked p-46 (w-45 ∷ [])) (g-49 : Is R-MasterWords (el 3) (v-MasterWords (el 3))) (p-51 : SLooked.Looked) (w-50 : Val) (e-52 : p-51 ≡ lookedOf (p-4 .message) h6 p-31 (recordIn (el 3))) (is-53 : Is R-Looked p-51 (w-50 ∷ [])) (g-54 : Is R-MasterWords (el 4) (v-MasterWords (el 4))) (p-56 : SLooked.Looked) (w-55 : Val) (e-57 : p-56 ≡ lookedOf (p-4 .message) h6 p-31 (recordIn (el 4))) (is-58 : Is R-Looked p-56 (w-55 ∷ [])) (p-60 : SSeat.Seat) (w-59 : Val) (e-61 : p-60 ≡ seatBy (h1 .settings) (h1 .state) (p-4 .message) h6 (p-36 .standing) (p-41 .standing) (p-46 .standing) (p-51 .standing) (p-56 .standing)) (is-62 : Is R-Seat p-60 (w-59 ∷ [])) (left3 : Holds (not (p-60 .barred))) → Sq W (‵ (fobs γ3 (codedHoleys R-MasterWords .code (heres R-MasterWords h3))) ∷ ‵ (fbor κ3 (Held R-MasterWords (length h3) b3 o3 γ3)) ∷ ‵ (flft κ3 q3) ∷ ‵ (fobs γ1 (R-UnitWords .coded .code h1)) ∷ ‵ (fbor κ1 (Body (mem R-UnitWords) b1 o1 γ1)) ∷ ‵ (flft κ1 q1) ∷ ‵ (MutSlice (named 4) κ5 R-u8 .own (x5 zs-8) ((sliceVal (b5, o5) (length h5)) ∷ [])) ∷ ‵ (flft κ5 q5) ∷ ‵ (flft κ8 q8) ∷ ‵ (flft κ4 q4) ∷ ‵ (flft κ2 q2) ∷ ‵ (ftrue) ∷ ‵ (fobs γ8 (R-AnswerWords .coded .code h8)) ∷ ‵ (fbor κ8 (Body (mem R-AnswerWords) b8 o8 γ8)) ∷ ‵ (R-Stamp .own h7 (u7 ∷ [])) ∷ ‵ (R-u64 .own h6 (u6 ∷ [])) ∷ ‵ (fobs γ4 (R-Watch .coded .code h4)) ∷ ‵ (fbor κ4 (Body (mem R-Watch) b4 o4 γ4)) ∷ ‵ (at-slice R-MasterWords (x3 h3) ((sliceVal (b3, o3) (length h3)) ∷ [])) ∷ ‵ (fobs γ2 (R-Servo .coded .code h2)) ∷ ‵ (fbor κ2 (Body (mem R-Servo) b2 o2 γ2)) ∷ ‵ (froom (tyRef erased mut (pointee (R-u8x128 .written))) l61 0) ∷ ‵ (fdies (tyRef erased mut (pointee (R-u8x128 .written))) l61) ∷ ‵ (froom (tyRef erased mut (pointee (R-i32x128 .written))) l60 0) ∷ ‵ (fdies (tyRef erased mut (pointee (R-i32x128 .written))) l60) ∷ ‵ (froom (tyRef erased mut (pointee (R-i64x128 .written))) l59 0) ∷ ‵ (fdies (tyRef erased mut (pointee (R-i64x128 .written))) l59) ∷ ‵ (froom MHead′.mir l58 0) ∷ ‵ (fdies MHead′.mir l58) ∷ ‵ (froom MAnswerWords′.mir l57 0) ∷ ‵ (fdies MAnswerWords′.mir l57) ∷ ‵ (froom MAnswerWords′.mir l56 0) ∷ ‵ (fdies MAnswerWords′.mir l56) ∷ ‵ (froom (tyRef erased mut (pointee (R-u8x128 .written))) l55 0) ∷ ‵ (fdies (tyRef erased mut (pointee (R-u8x128 .written))) l55) ∷ ‵ (froom (tyRef erased mut (pointee (R-i32x128 .written))) l54 0) ∷ ‵ (fdies (tyRef erased mut (pointee (R-i32x128 .written))) l54) ∷ ‵ (froom (tyRef erased mut (pointee (R-i64x128 .written))) l53 0) ∷ ‵ (fdies (tyRef erased mut (pointee (R-i64x128 .written))) l53) ∷ ‵ (froom MHead′.mir l52 0) ∷ ‵ (fdies MHead′.mir l52) ∷ ‵ (froom tyPtr l51 0) ∷ ‵ (fdies tyPtr l51) ∷ ‵ (froom tyPtr l50 0) ∷ ‵ (fdies tyPtr l50) ∷ ‵ (froom (tyInt w64) l49 0) ∷ ‵ (fdies (tyInt w64) l49) ∷ ‵ (froom MAnswerWords′.mir l48 0) ∷ ‵ (fdies MAnswerWords′.mir l48) ∷ ‵ (froom tyBool l47 0) ∷ ‵ (fdies tyBool l47) ∷ ‵ (froom tyPtr l46 0) ∷ ‵ (fdies tyPtr l46) ∷ ‵ (froom tyPtr l45 0) ∷ ‵ (fdies tyPtr l45) ∷ ‵ (froom tyPtr l44 0) ∷ ‵ (fdies tyPtr l44) ∷ ‵ (froom tyPtr l43 0) ∷ ‵ (fdies tyPtr l43) ∷ ‵ (froom MMasterWords′.mir l42 0) ∷ ‵ (fdies MMasterWords′.mir l42) ∷ ‵ (froom tyPtr l41 0) ∷ ‵ (fdies tyPtr l41) ∷ ‵ (froom MAnswerWords′.mir l40 0) ∷ ‵ (fdies MAnswerWords′.mir l40) ∷ ‵ (froom (tyInt w64) l39 0) ∷ ‵ (fdies (tyInt w64) l39) ∷ ‵ (froom MAnswerWords′.mir l38 0) ∷ ‵ (fdies MAnswerWords′.mir l38) ∷ ‵ (froom tyBool l37 0) ∷ ‵ (fdies tyBool l37) ∷ ‵ (froom (sliceTy (tyRef erased mut (tyInt w8))) l36 0) ∷ ‵ (fdies (sliceTy (tyRef erased mut (tyInt w8))) l36) ∷ ‵ (froom (tyRef erased mut (tyInt w8)) l35 0) ∷ ‵ (fdies (tyRef erased mut (tyInt w8)) l35) ∷ ‵ (froom tyBool l34 0) ∷ ‵ (fdies tyBool l34) ∷ ‵ (froom MServo′.mir l33 0) ∷ ‵ (fdies MServo′.mir l33) ∷ ‵ (froom MServo′.mir l32 0) ∷ ‵ (fdies MServo′.mir l32) ∷ ‵ (froom tyBool l31 0) ∷ ‵ (fdies tyBool l31) ∷ ‵ (froom MTold′.mir l30 0) ∷ ‵ (fdies MTold′.mir l30) ∷ ‵ (froom MDelaysWords′.mir l29 0) ∷ ‵ (fdies MDelaysWords′.mir l29) ∷ ‵ (froom MHalvesWords′.mir l28 0) ∷ ‵ (fdies MHalvesWords′.mir l28) ∷ ‵ (froom MEmptied′.mir l27 0) ∷ ‵ (fdies MEmptied′.mir l27) ∷ ‵ (froom tyBool l26 0) ∷ ‵ (fdies tyBool l26) ∷ ‵ (froom MHeld′.mir l25 0) ∷ ‵ (fdies MHeld′.mir l25) ∷ ‵ (froom MMasterWords′.mir l24 0) ∷ ‵ (fdies MMasterWords′.mir l24) ∷ ‵ (froom (tyInt w64) l23 0) ∷ ‵ (fdies (tyInt w64) l23) ∷ ‵ (froom tyBool l22 0) ∷ ‵ (fdies tyBool l22) ∷ ‵ (fat fullShare MSeat′.mir l21 0 (vstruct (ofList ((parts-Seat p-60 w-59 is-62) .pu0 ∷ (parts-Seat p-60 w-59 is-62) .pu1 ∷ (parts-Seat p-60 w-59 is-62) .pu2 ∷ (parts-Seat p-60 w-59 is-62) .pu3 ∷ [])))) ∷ ‵ (fdies MSeat′.mir l21) ∷ ‵ (fat fullShare MLooked′.mir l20 0 w-55) ∷ ‵ (fdies MLooked′.mir l20) ∷ ‵ (fat fullShare MLooked′.mir l19 0 w-50) ∷ ‵ (fdies MLooked′.mir l19) ∷ ‵ (fat fullShare MLooked′.mir l18 0 w-45) ∷ ‵ (fdies MLooked′.mir l18) ∷ ‵ (fat fullShare MLooked′.mir l17 0 w-40) ∷ ‵ (fdies MLooked′.mir l17) ∷ ‵ (fat fullShare MLooked′.mir l16 0 w-35) ∷ ‵ (fdies MLooked′.mir l16) ∷ ‵ (fat fullShare (tyInt w32) l15 0 w-30) ∷ ‵ (fdies (tyInt w32) l15) ∷ ‵ (froom tyBool l14 0) ∷ ‵ (fdies tyBool l14) ∷ ‵ (fat fullShare MStateWords′.mir l13 0 u-28) ∷ ‵ (fdies MStateWords′.mir l13) ∷ ‵ (fat fullShare MSettingsWords′.mir l12 0 u-24) ∷ ‵ (fdies MSettingsWords′.mir l12) ∷ ‵ (fat fullShare MMessage′.mir l11 0 ((parts-Received p-4 w-3 is-7) .pu0)) ∷ ‵ (fdies MMessage′.mir l11) ∷ ‵ (froom tyBool l10 0) ∷ ‵ (fdies tyBool l10) ∷ ‵ (froom MReceived′.mir l9 0) ∷ ‵ (fdies MReceived′.mir l9) ∷ ‵ (fat fullShare (tyRef (named 5) mut (pointee (R-AnswerWords .written))) l8 0 (vptr b8 o8)) ∷ ‵ (fdies (tyRef (named 5) mut (pointee (R-AnswerWords .written))) l8) ∷ ‵ (froom MStamp′.mir l7 0) ∷ ‵ (fdies MStamp′.mir l7) ∷ ‵ (fat fullShare (tyInt w64) l6 0 u6) ∷ ‵ (fdies (tyInt w64) l6) ∷ ‵ (froom (sliceTy (tyRef (named 4) mut (tyInt w8))) l5 0) ∷ ‵ (fdies (sliceTy (tyRef (named 4) mut (tyInt w8))) l5) ∷ ‵ (fat fullShare (tyRef (named 3) mut (pointee (R-Watch .written))) l4 0 (vptr b4 o4)) ∷ ‵ (fdies (tyRef (named 3) mut (pointee (R-Watch .written))) l4) ∷ ‵ (fat fullShare (sliceTy (tyRef (named 2) mut (pointee (R-MasterWords .written)))) l3 0 (sliceVal (b3, o3) (length h3))) ∷ ‵ (fdies (sliceTy (tyRef (named 2) mut (pointee (R-MasterWords .written)))) l3) ∷ ‵ (fat fullShare (tyRef (named 1) mut (pointee (R-Servo .written))) l2 0 (vptr b2 o2)) ∷ ‵ (fdies (tyRef (named 1) mut (pointee (R-Servo .written))) l2) ∷ ‵ (fat fullShare (tyRef (named 0) mut (pointee (R-UnitWords .written))) l1 0 (vptr b1 o1)) ∷ ‵ (fdies (tyRef (named 0) mut (pointee (R-UnitWords .written))) l1) ∷ ‵ (froom tyUnit l0 0) ∷ ‵ (fdies tyUnit l0) ∷ []) (runs C Λ En i-15-21 qq)
+      from-15-21 : (qq : Kit-Post 𝓤 H) (ee : post 𝓤 H qq returnsᴼ ≡ atReturn 𝓤 H En Post returnsᴼ) (zs-8 : List ℕ) (len-9 : length zs-8 ≡ length h5) (p-4 : SReceived.Received) (w-3 : Val) (e-6 : (p-4 ≡ receivedBy (readOf h5)) × (zs-8 ≡ h5)) (is-7 : Is R-Received p-4 (w-3 ∷ [])) (left1 : Holds (not (p-4 .barred))) (good : Holds (not (not (eqb (length h3) 5)))) (u-24 : Val) (g-25 : Is R-SettingsWords (h1 .settings) (u-24 ∷ [])) (u-28 : Val) (g-29 : Is R-StateWords (h1 .state) (u-28 ∷ [])) (held2 : Holds (p-4 .announces)) (p-31 : ℕ) (w-30 : Val) (e-32 : p-31 ≡ intervalOf ((h1 .settings) .announce)) (is-33 : Is R-u32 p-31 (w-30 ∷ [])) (g-34 : Is R-MasterWords (el 0) (v-MasterWords (el 0))) (p-36 : SLooked.Looked) (w-35 : Val) (e-37 : p-36 ≡ lookedOf (p-4 .message) h6 p-31 (recordIn (el 0))) (is-38 : Is R-Looked p-36 (w-35 ∷ [])) (g-39 : Is R-MasterWords (el 1) (v-MasterWords (el 1))) (p-41 : SLooked.Looked) (w-40 : Val) (e-42 : p-41 ≡ lookedOf (p-4 .message) h6 p-31 (recordIn (el 1))) (is-43 : Is R-Looked p-41 (w-40 ∷ [])) (g-44 : Is R-MasterWords (el 2) (v-MasterWords (el 2))) (p-46 : SLooked.Looked) (w-45 : Val) (e-47 : p-46 ≡ lookedOf (p-4 .message) h6 p-31 (recordIn (el 2))) (is-48 : Is R-Looked p-46 (w-45 ∷ [])) (g-49 : Is R-MasterWords (el 3) (v-MasterWords (el 3))) (p-51 : SLooked.Looked) (w-50 : Val) (e-52 : p-51 ≡ lookedOf (p-4 .message) h6 p-31 (recordIn (el 3))) (is-53 : Is R-Looked p-51 (w-50 ∷ [])) (g-54 : Is R-MasterWords (el 4) (v-MasterWords (el 4))) (p-56 : SLooked.Looked) (w-55 : Val) (e-57 : p-56 ≡ lookedOf (p-4 .message) h6 p-31 (recordIn (el 4))) (is-58 : Is R-Looked p-56 (w-55 ∷ [])) (p-60 : SSeat.Seat) (w-59 : Val) (e-61 : p-60 ≡ seatBy (h1 .settings) (h1 .state) (p-4 .message) h6 (p-36 .standing) (p-41 .standing) (p-46 .standing) (p-51 .standing) (p-56 .standing)) (is-62 : Is R-Seat p-60 (w-59 ∷ [])) (left3 : Holds (not (p-60 .barred))) → Sq W (‵ (fobs γ3 (codedHoleys R-MasterWords .code (heres R-MasterWords h3))) ∷ ‵ (fbor κ3 (Held R-MasterWords (length h3) b3 o3 γ3)) ∷ ‵ (flft κ3 q3) ∷ ‵ (fobs γ1 (R-UnitWords .coded .code h1)) ∷ ‵ (fbor κ1 (Body (mem R-UnitWords) b1 o1 γ1)) ∷ ‵ (flft κ1 q1) ∷ ‵ (MutSlice (named 4) κ5 R-u8 .own (x5 zs-8) ((sliceVal (b5, o5) (length h5)) ∷ [])) ∷ ‵ (flft κ5 q5) ∷ ‵ (flft κ8 q8) ∷ ‵ (flft κ4 q4) ∷ ‵ (flft κ2 q2) ∷ ‵ (ftrue) ∷ ‵ (fobs γ8 (R-AnswerWords .coded .code h8)) ∷ ‵ (fbor κ8 (Body (mem R-AnswerWords) b8 o8 γ8)) ∷ ‵ (R-Stamp .own h7 (u7 ∷ [])) ∷ ‵ (R-u64 .own h6 (u6 ∷ [])) ∷ ‵ (fobs γ4 (R-Watch .coded .code h4)) ∷ ‵ (fbor κ4 (Body (mem R-Watch) b4 o4 γ4)) ∷ ‵ (at-slice R-MasterWords (x3 h3) ((sliceVal (b3, o3) (length h3)) ∷ [])) ∷ ‵ (fobs γ2 (R-Servo .coded .code h2)) ∷ ‵ (fbor κ2 (Body (mem R-Servo) b2 o2 γ2)) ∷ ‵ (froom (tyRef erased mut (pointee (R-u8x128 .written))) l65 0) ∷ ‵ (fdies (tyRef erased mut (pointee (R-u8x128 .written))) l65) ∷ ‵ (froom (tyRef erased mut (pointee (R-i32x128 .written))) l64 0) ∷ ‵ (fdies (tyRef erased mut (pointee (R-i32x128 .written))) l64) ∷ ‵ (froom (tyRef erased mut (pointee (R-i64x128 .written))) l63 0) ∷ ‵ (fdies (tyRef erased mut (pointee (R-i64x128 .written))) l63) ∷ ‵ (froom MHead′.mir l62 0) ∷ ‵ (fdies MHead′.mir l62) ∷ ‵ (froom MAnswerWords′.mir l61 0) ∷ ‵ (fdies MAnswerWords′.mir l61) ∷ ‵ (froom MAnswerWords′.mir l60 0) ∷ ‵ (fdies MAnswerWords′.mir l60) ∷ ‵ (froom (tyRef erased mut (pointee (R-u8x128 .written))) l59 0) ∷ ‵ (fdies (tyRef erased mut (pointee (R-u8x128 .written))) l59) ∷ ‵ (froom (tyRef erased mut (pointee (R-i32x128 .written))) l58 0) ∷ ‵ (fdies (tyRef erased mut (pointee (R-i32x128 .written))) l58) ∷ ‵ (froom (tyRef erased mut (pointee (R-i64x128 .written))) l57 0) ∷ ‵ (fdies (tyRef erased mut (pointee (R-i64x128 .written))) l57) ∷ ‵ (froom MHead′.mir l56 0) ∷ ‵ (fdies MHead′.mir l56) ∷ ‵ (froom tyPtr l55 0) ∷ ‵ (fdies tyPtr l55) ∷ ‵ (froom tyPtr l54 0) ∷ ‵ (fdies tyPtr l54) ∷ ‵ (froom (tyInt w64) l53 0) ∷ ‵ (fdies (tyInt w64) l53) ∷ ‵ (froom MAnswerWords′.mir l52 0) ∷ ‵ (fdies MAnswerWords′.mir l52) ∷ ‵ (froom tyBool l51 0) ∷ ‵ (fdies tyBool l51) ∷ ‵ (froom tyPtr l50 0) ∷ ‵ (fdies tyPtr l50) ∷ ‵ (froom tyPtr l49 0) ∷ ‵ (fdies tyPtr l49) ∷ ‵ (froom tyPtr l48 0) ∷ ‵ (fdies tyPtr l48) ∷ ‵ (froom tyPtr l47 0) ∷ ‵ (fdies tyPtr l47) ∷ ‵ (froom MMasterWords′.mir l46 0) ∷ ‵ (fdies MMasterWords′.mir l46) ∷ ‵ (froom tyPtr l45 0) ∷ ‵ (fdies tyPtr l45) ∷ ‵ (froom MAnswerWords′.mir l44 0) ∷ ‵ (fdies MAnswerWords′.mir l44) ∷ ‵ (froom (tyInt w64) l43 0) ∷ ‵ (fdies (tyInt w64) l43) ∷ ‵ (froom MAnswerWords′.mir l42 0) ∷ ‵ (fdies MAnswerWords′.mir l42) ∷ ‵ (froom tyBool l41 0) ∷ ‵ (fdies tyBool l41) ∷ ‵ (froom (sliceTy (tyRef erased mut (tyInt w8))) l40 0) ∷ ‵ (fdies (sliceTy (tyRef erased mut (tyInt w8))) l40) ∷ ‵ (froom (tyRef erased mut (tyInt w8)) l39 0) ∷ ‵ (fdies (tyRef erased mut (tyInt w8)) l39) ∷ ‵ (froom (tyInt w16) l38 0) ∷ ‵ (fdies (tyInt w16) l38) ∷ ‵ (froom (tyInt w8) l37 0) ∷ ‵ (fdies (tyInt w8) l37) ∷ ‵ (froom MServo′.mir l36 0) ∷ ‵ (fdies MServo′.mir l36) ∷ ‵ (froom tyBool l35 0) ∷ ‵ (fdies tyBool l35) ∷ ‵ (froom tyBool l34 0) ∷ ‵ (fdies tyBool l34) ∷ ‵ (froom MAccepted′.mir l33 0) ∷ ‵ (fdies MAccepted′.mir l33) ∷ ‵ (froom MServo′.mir l32 0) ∷ ‵ (fdies MServo′.mir l32) ∷ ‵ (froom tyBool l31 0) ∷ ‵ (fdies tyBool l31) ∷ ‵ (froom MTold′.mir l30 0) ∷ ‵ (fdies MTold′.mir l30) ∷ ‵ (froom MDelaysWords′.mir l29 0) ∷ ‵ (fdies MDelaysWords′.mir l29) ∷ ‵ (froom MHalvesWords′.mir l28 0) ∷ ‵ (fdies MHalvesWords′.mir l28) ∷ ‵ (froom MEmptied′.mir l27 0) ∷ ‵ (fdies MEmptied′.mir l27) ∷ ‵ (froom tyBool l26 0) ∷ ‵ (fdies tyBool l26) ∷ ‵ (froom MHeld′.mir l25 0) ∷ ‵ (fdies MHeld′.mir l25) ∷ ‵ (froom MMasterWords′.mir l24 0) ∷ ‵ (fdies MMasterWords′.mir l24) ∷ ‵ (froom (tyInt w64) l23 0) ∷ ‵ (fdies (tyInt w64) l23) ∷ ‵ (froom tyBool l22 0) ∷ ‵ (fdies tyBool l22) ∷ ‵ (fat fullShare MSeat′.mir l21 0 (vstruct (ofList ((parts-Seat p-60 w-59 is-62) .pu0 ∷ (parts-Seat p-60 w-59 is-62) .pu1 ∷ (parts-Seat p-60 w-59 is-62) .pu2 ∷ (parts-Seat p-60 w-59 is-62) .pu3 ∷ [])))) ∷ ‵ (fdies MSeat′.mir l21) ∷ ‵ (fat fullShare MLooked′.mir l20 0 w-55) ∷ ‵ (fdies MLooked′.mir l20) ∷ ‵ (fat fullShare MLooked′.mir l19 0 w-50) ∷ ‵ (fdies MLooked′.mir l19) ∷ ‵ (fat fullShare MLooked′.mir l18 0 w-45) ∷ ‵ (fdies MLooked′.mir l18) ∷ ‵ (fat fullShare MLooked′.mir l17 0 w-40) ∷ ‵ (fdies MLooked′.mir l17) ∷ ‵ (fat fullShare MLooked′.mir l16 0 w-35) ∷ ‵ (fdies MLooked′.mir l16) ∷ ‵ (fat fullShare (tyInt w32) l15 0 w-30) ∷ ‵ (fdies (tyInt w32) l15) ∷ ‵ (froom tyBool l14 0) ∷ ‵ (fdies tyBool l14) ∷ ‵ (fat fullShare MStateWords′.mir l13 0 u-28) ∷ ‵ (fdies MStateWords′.mir l13) ∷ ‵ (fat fullShare MSettingsWords′.mir l12 0 u-24) ∷ ‵ (fdies MSettingsWords′.mir l12) ∷ ‵ (fat fullShare MMessage′.mir l11 0 ((parts-Received p-4 w-3 is-7) .pu0)) ∷ ‵ (fdies MMessage′.mir l11) ∷ ‵ (froom tyBool l10 0) ∷ ‵ (fdies tyBool l10) ∷ ‵ (froom MReceived′.mir l9 0) ∷ ‵ (fdies MReceived′.mir l9) ∷ ‵ (fat fullShare (tyRef (named 5) mut (pointee (R-AnswerWords .written))) l8 0 (vptr b8 o8)) ∷ ‵ (fdies (tyRef (named 5) mut (pointee (R-AnswerWords .written))) l8) ∷ ‵ (froom MStamp′.mir l7 0) ∷ ‵ (fdies MStamp′.mir l7) ∷ ‵ (fat fullShare (tyInt w64) l6 0 u6) ∷ ‵ (fdies (tyInt w64) l6) ∷ ‵ (froom (sliceTy (tyRef (named 4) mut (tyInt w8))) l5 0) ∷ ‵ (fdies (sliceTy (tyRef (named 4) mut (tyInt w8))) l5) ∷ ‵ (fat fullShare (tyRef (named 3) mut (pointee (R-Watch .written))) l4 0 (vptr b4 o4)) ∷ ‵ (fdies (tyRef (named 3) mut (pointee (R-Watch .written))) l4) ∷ ‵ (fat fullShare (sliceTy (tyRef (named 2) mut (pointee (R-MasterWords .written)))) l3 0 (sliceVal (b3, o3) (length h3))) ∷ ‵ (fdies (sliceTy (tyRef (named 2) mut (pointee (R-MasterWords .written)))) l3) ∷ ‵ (fat fullShare (tyRef (named 1) mut (pointee (R-Servo .written))) l2 0 (vptr b2 o2)) ∷ ‵ (fdies (tyRef (named 1) mut (pointee (R-Servo .written))) l2) ∷ ‵ (fat fullShare (tyRef (named 0) mut (pointee (R-UnitWords .written))) l1 0 (vptr b1 o1)) ∷ ‵ (fdies (tyRef (named 0) mut (pointee (R-UnitWords .written))) l1) ∷ ‵ (froom tyUnit l0 0) ∷ ‵ (fdies tyUnit l0) ∷ []) (runs C Λ En i-15-21 qq)
       from-15-21 qq ee zs-8 len-9 p-4 w-3 e-6 is-7 left1 good u-24 g-25 u-28 g-29 held2 p-31 w-30 e-32 is-33 g-34 p-36 w-35 e-37 is-38 g-39 p-41 w-40 e-42 is-43 g-44 p-46 w-45 e-47 is-48 g-49 p-51 w-50 e-52 is-53 g-54 p-56 w-55 e-57 is-58 p-60 w-59 e-61 is-62 left3 =
-          assigns ! (of-opd ! (load ! (from ! (fld ! {τ = (tyInt w64)} {d = off-Seat-2} field-Seat-2 (stop !))) (look-in ! 101 (sub ! {ν = name-of MSeat′.mir} {τs = tys-of MSeat′.mir} 2 {τ = (tyInt w64)} {d = off-Seat-2} field-Seat-2 (whole !))))) (from ! (stop !)) (init ! 97 refl (lawful-usize 𝓤 H A W .typed (p-60 .at) _ ((parts-Seat p-60 w-59 is-62) .pg2) .0)) $
-          rewrite ! 97 (λ (u : Val). ‵ (fat fullShare (tyInt w64) l23 0 u)) (ap only (tells-usize (p-60 .at) (((parts-Seat p-60 w-59 is-62) .pu2) ∷ []) ((parts-Seat p-60 w-59 is-62) .pg2))) refl $
-          assigns ! (bin ! (load ! (from ! (stop !)) (look ! 97 refl)) (lit ! tt) (record { fits = small-place (length h3) (p-60 .at) (subst (λ (m : ℕ). (p-60 .at) < m) (sym (is-N good)) (subst (λ (d : SSeat.Seat). d .at < 5) (sym e-61) (seat-within (h1 .settings) (h1 .state) (p-4 .message) h6 (p-36 .standing) (p-41 .standing) (p-46 .standing) (p-51 .standing) (p-56 .standing)))) (room3 .1) })) (from ! (stop !)) (init ! 45 refl (tt, (record { fits = small-place (length h3) (p-60 .at) (subst (λ (m : ℕ). (p-60 .at) < m) (sym (is-N good)) (subst (λ (d : SSeat.Seat). d .at < 5) (sym e-61) (seat-within (h1 .settings) (h1 .state) (p-4 .message) h6 (p-36 .standing) (p-41 .standing) (p-46 .standing) (p-51 .standing) (p-56 .standing)))) (room3 .1) }))) $
+          assigns ! (of-opd ! (load ! (from ! (fld ! {τ = (tyInt w64)} {d = off-Seat-2} field-Seat-2 (stop !))) (look-in ! 109 (sub ! {ν = name-of MSeat′.mir} {τs = tys-of MSeat′.mir} 2 {τ = (tyInt w64)} {d = off-Seat-2} field-Seat-2 (whole !))))) (from ! (stop !)) (init ! 105 refl (lawful-usize 𝓤 H A W .typed (p-60 .at) _ ((parts-Seat p-60 w-59 is-62) .pg2) .0)) $
+          rewrite ! 105 (λ (u : Val). ‵ (fat fullShare (tyInt w64) l23 0 u)) (ap only (tells-usize (p-60 .at) (((parts-Seat p-60 w-59 is-62) .pu2) ∷ []) ((parts-Seat p-60 w-59 is-62) .pg2))) refl $
+          assigns ! (bin ! (load ! (from ! (stop !)) (look ! 105 refl)) (lit ! tt) (record { fits = small-place (length h3) (p-60 .at) (subst (λ (m : ℕ). (p-60 .at) < m) (sym (is-N good)) (subst (λ (d : SSeat.Seat). d .at < 5) (sym e-61) (seat-within (h1 .settings) (h1 .state) (p-4 .message) h6 (p-36 .standing) (p-41 .standing) (p-46 .standing) (p-51 .standing) (p-56 .standing)))) (room3 .1) })) (from ! (stop !)) (init ! 45 refl (tt, (record { fits = small-place (length h3) (p-60 .at) (subst (λ (m : ℕ). (p-60 .at) < m) (sym (is-N good)) (subst (λ (d : SSeat.Seat). d .at < 5) (sym e-61) (seat-within (h1 .settings) (h1 .state) (p-4 .message) h6 (p-36 .standing) (p-41 .standing) (p-46 .standing) (p-51 .standing) (p-56 .standing)))) (room3 .1) }))) $
           opens-slice ! tt R-MasterWords h3 b3 o3 $
-          assigns ! (bin ! (load ! (from ! (fld ! refl (stop !))) (look-in ! 138 (sub ! 0 refl (whole !)))) (load ! (from ! (stop !)) (look ! 46 refl)) tt) (from ! (stop !)) (init ! 44 refl (tt, tt)) $
-          rewrite ! 44 (λ (p : ℕ). ‵ (fat fullShare tyPtr l50 0 (vptr b3 p))) (sym (place-is 96 o3 (p-60 .at))) refl $
+          assigns ! (bin ! (load ! (from ! (fld ! refl (stop !))) (look-in ! 146 (sub ! 0 refl (whole !)))) (load ! (from ! (stop !)) (look ! 46 refl)) tt) (from ! (stop !)) (init ! 44 refl (tt, tt)) $
+          rewrite ! 44 (λ (p : ℕ). ‵ (fat fullShare tyPtr l54 0 (vptr b3 p))) (sym (place-is 96 o3 (p-60 .at))) refl $
           elem-out ! R-MasterWords (Is R-MasterWords) (shows 𝓤 H A R-MasterWords) v-MasterWords tells-MasterWords fullShare h3 (p-60 .at) noMaster b3 o3 (subst (λ (m : ℕ). (p-60 .at) < m) (sym (refl ∙ is-N good)) (subst (λ (d : SSeat.Seat). d .at < 5) (sym e-61) (seat-within (h1 .settings) (h1 .state) (p-4 .message) h6 (p-36 .standing) (p-41 .standing) (p-46 .standing) (p-51 .standing) (p-56 .standing)))) (λ g-69.
           assigns ! (of-opd ! (load ! (from ! (hop ! (look ! 46 refl) (stop !))) (look-raw ! 0 refl))) (from ! (stop !)) (init ! 62 refl (lawful-MasterWords 𝓤 H A W .typed (el (p-60 .at)) _ g-69 .0)) $
           elem-back ! R-MasterWords fullShare h3 (p-60 .at) noMaster (v-MasterWords (el (p-60 .at))) b3 o3 (subst (λ (m : ℕ). (p-60 .at) < m) (sym (refl ∙ is-N good)) (subst (λ (d : SSeat.Seat). d .at < 5) (sym e-61) (seat-within (h1 .settings) (h1 .state) (p-4 .message) h6 (p-36 .standing) (p-41 .standing) (p-46 .standing) (p-51 .standing) (p-56 .standing)))) $
-          rewrite ! 102 (λ (u : Val). ‵ (fat fullShare MSeat′.mir l21 0 u)) (sym (parts-Seat p-60 w-59 is-62 .whole-is)) refl $
+          rewrite ! 110 (λ (u : Val). ‵ (fat fullShare MSeat′.mir l21 0 u)) (sym (parts-Seat p-60 w-59 is-62 .whole-is)) refl $
           use0 W (raw (C-place 𝓤 H A at-mem run .pre (to-place (el (p-60 .at)) (only (v-MasterWords (el (p-60 .at)))) (p-4 .message) ((parts-Received p-4 w-3 is-7) .pu0) p-60 w-59 h6 u6))) (goes-place (el (p-60 .at)) (only (v-MasterWords (el (p-60 .at)))) g-69 (p-4 .message) ((parts-Received p-4 w-3 is-7) .pu0) ((parts-Received p-4 w-3 is-7) .pg0) p-60 w-59 is-62 h6 u6 g6) $
-          calls-at ! fm (C-place 𝓤 H A at-mem run) known-place (to-place (el (p-60 .at)) (only (v-MasterWords (el (p-60 .at)))) (p-4 .message) ((parts-Received p-4 w-3 is-7) .pu0) p-60 w-59 h6 u6) (and-then ! (load ! (from ! (stop !)) (look ! 61 refl)) (and-then ! (load ! (from ! (stop !)) (look ! 123 refl)) (and-then ! (load ! (from ! (stop !)) (look ! 103 refl)) (and-then ! (load ! (from ! (stop !)) (look ! 133 refl)) (no-more !))))) (λ w-70.
+          calls-at ! fm (C-place 𝓤 H A at-mem run) known-place (to-place (el (p-60 .at)) (only (v-MasterWords (el (p-60 .at)))) (p-4 .message) ((parts-Received p-4 w-3 is-7) .pu0) p-60 w-59 h6 u6) (and-then ! (load ! (from ! (stop !)) (look ! 61 refl)) (and-then ! (load ! (from ! (stop !)) (look ! 131 refl)) (and-then ! (load ! (from ! (stop !)) (look ! 111 refl)) (and-then ! (load ! (from ! (stop !)) (look ! 141 refl)) (no-more !))))) (λ w-70.
           use1 W (later (some (λ (p-71 : SMasterWords.MasterWords). (‵ ftrue ⊛ ‵ (R-MasterWords .own p-71 (w-70 ∷ []))) ⊛ raw (ensured 𝓤 H A f-place.ended (f-place.clauses 𝓤 H A at-mem run) tt ((el (p-60 .at)), ((p-4 .message), (p-60, (h6, tt)))) tt p-71)))) (id⊢ 𝓤 _) $ await ! tt $
           pick ! (λ p-71.
           split ! $
@@ -2318,27 +2318,27 @@ module _ {M : Type 1} (𝓤 : URA M) (H : Heap 𝓤) (A : Atoms 𝓤) (W : Given
           drop ! $
           peeks ! R-MasterWords (Is R-MasterWords) (shows 𝓤 H A R-MasterWords) p-71 (w-70 ∷ []) (λ is-73.
           drop ! $
-          land ! (from ! (stop !)) (init ! 96 refl (lawful-MasterWords 𝓤 H A W .typed p-71 _ is-73 .0)) $
+          land ! (from ! (stop !)) (init ! 104 refl (lawful-MasterWords 𝓤 H A W .typed p-71 _ is-73 .0)) $
           closes-slice ! tt R-MasterWords h3 h3 refl b3 o3 $
-          forget ! 121 refl $ forget ! 45 refl $ forget ! 43 refl $ forget ! 59 refl $
+          forget ! 129 refl $ forget ! 45 refl $ forget ! 43 refl $ forget ! 59 refl $
           from-15-26 qq ee zs-8 len-9 p-4 w-3 e-6 is-7 left1 good u-24 g-25 u-28 g-29 held2 p-31 w-30 e-32 is-33 g-34 p-36 w-35 e-37 is-38 g-39 p-41 w-40 e-42 is-43 g-44 p-46 w-45 e-47 is-48 g-49 p-51 w-50 e-52 is-53 g-54 p-56 w-55 e-57 is-58 p-60 w-59 e-61 is-62 left3 g-69 p-71 w-70 e-72 is-73)))))
 
-      from-15-18 : (qq : Kit-Post 𝓤 H) (ee : post 𝓤 H qq returnsᴼ ≡ atReturn 𝓤 H En Post returnsᴼ) (zs-8 : List ℕ) (len-9 : length zs-8 ≡ length h5) (p-4 : SReceived.Received) (w-3 : Val) (e-6 : (p-4 ≡ receivedBy (readOf h5)) × (zs-8 ≡ h5)) (is-7 : Is R-Received p-4 (w-3 ∷ [])) (left1 : Holds (not (p-4 .barred))) (good : Holds (not (not (eqb (length h3) 5)))) (u-24 : Val) (g-25 : Is R-SettingsWords (h1 .settings) (u-24 ∷ [])) (u-28 : Val) (g-29 : Is R-StateWords (h1 .state) (u-28 ∷ [])) (held2 : Holds (p-4 .announces)) (p-31 : ℕ) (w-30 : Val) (e-32 : p-31 ≡ intervalOf ((h1 .settings) .announce)) (is-33 : Is R-u32 p-31 (w-30 ∷ [])) (g-34 : Is R-MasterWords (el 0) (v-MasterWords (el 0))) (p-36 : SLooked.Looked) (w-35 : Val) (e-37 : p-36 ≡ lookedOf (p-4 .message) h6 p-31 (recordIn (el 0))) (is-38 : Is R-Looked p-36 (w-35 ∷ [])) (g-39 : Is R-MasterWords (el 1) (v-MasterWords (el 1))) (p-41 : SLooked.Looked) (w-40 : Val) (e-42 : p-41 ≡ lookedOf (p-4 .message) h6 p-31 (recordIn (el 1))) (is-43 : Is R-Looked p-41 (w-40 ∷ [])) (g-44 : Is R-MasterWords (el 2) (v-MasterWords (el 2))) (p-46 : SLooked.Looked) (w-45 : Val) (e-47 : p-46 ≡ lookedOf (p-4 .message) h6 p-31 (recordIn (el 2))) (is-48 : Is R-Looked p-46 (w-45 ∷ [])) (g-49 : Is R-MasterWords (el 3) (v-MasterWords (el 3))) (p-51 : SLooked.Looked) (w-50 : Val) (e-52 : p-51 ≡ lookedOf (p-4 .message) h6 p-31 (recordIn (el 3))) (is-53 : Is R-Looked p-51 (w-50 ∷ [])) (g-54 : Is R-MasterWords (el 4) (v-MasterWords (el 4))) (p-56 : SLooked.Looked) (w-55 : Val) (e-57 : p-56 ≡ lookedOf (p-4 .message) h6 p-31 (recordIn (el 4))) (is-58 : Is R-Looked p-56 (w-55 ∷ [])) (p-60 : SSeat.Seat) (w-59 : Val) (e-61 : p-60 ≡ seatBy (h1 .settings) (h1 .state) (p-4 .message) h6 (p-36 .standing) (p-41 .standing) (p-46 .standing) (p-51 .standing) (p-56 .standing)) (is-62 : Is R-Seat p-60 (w-59 ∷ [])) → Sq W (‵ (fobs γ3 (codedHoleys R-MasterWords .code (heres R-MasterWords h3))) ∷ ‵ (fbor κ3 (Held R-MasterWords (length h3) b3 o3 γ3)) ∷ ‵ (flft κ3 q3) ∷ ‵ (fobs γ1 (R-UnitWords .coded .code h1)) ∷ ‵ (fbor κ1 (Body (mem R-UnitWords) b1 o1 γ1)) ∷ ‵ (flft κ1 q1) ∷ ‵ (MutSlice (named 4) κ5 R-u8 .own (x5 zs-8) ((sliceVal (b5, o5) (length h5)) ∷ [])) ∷ ‵ (flft κ5 q5) ∷ ‵ (flft κ8 q8) ∷ ‵ (flft κ4 q4) ∷ ‵ (flft κ2 q2) ∷ ‵ (ftrue) ∷ ‵ (fobs γ8 (R-AnswerWords .coded .code h8)) ∷ ‵ (fbor κ8 (Body (mem R-AnswerWords) b8 o8 γ8)) ∷ ‵ (R-Stamp .own h7 (u7 ∷ [])) ∷ ‵ (R-u64 .own h6 (u6 ∷ [])) ∷ ‵ (fobs γ4 (R-Watch .coded .code h4)) ∷ ‵ (fbor κ4 (Body (mem R-Watch) b4 o4 γ4)) ∷ ‵ (at-slice R-MasterWords (x3 h3) ((sliceVal (b3, o3) (length h3)) ∷ [])) ∷ ‵ (fobs γ2 (R-Servo .coded .code h2)) ∷ ‵ (fbor κ2 (Body (mem R-Servo) b2 o2 γ2)) ∷ ‵ (froom (tyRef erased mut (pointee (R-u8x128 .written))) l61 0) ∷ ‵ (fdies (tyRef erased mut (pointee (R-u8x128 .written))) l61) ∷ ‵ (froom (tyRef erased mut (pointee (R-i32x128 .written))) l60 0) ∷ ‵ (fdies (tyRef erased mut (pointee (R-i32x128 .written))) l60) ∷ ‵ (froom (tyRef erased mut (pointee (R-i64x128 .written))) l59 0) ∷ ‵ (fdies (tyRef erased mut (pointee (R-i64x128 .written))) l59) ∷ ‵ (froom MHead′.mir l58 0) ∷ ‵ (fdies MHead′.mir l58) ∷ ‵ (froom MAnswerWords′.mir l57 0) ∷ ‵ (fdies MAnswerWords′.mir l57) ∷ ‵ (froom MAnswerWords′.mir l56 0) ∷ ‵ (fdies MAnswerWords′.mir l56) ∷ ‵ (froom (tyRef erased mut (pointee (R-u8x128 .written))) l55 0) ∷ ‵ (fdies (tyRef erased mut (pointee (R-u8x128 .written))) l55) ∷ ‵ (froom (tyRef erased mut (pointee (R-i32x128 .written))) l54 0) ∷ ‵ (fdies (tyRef erased mut (pointee (R-i32x128 .written))) l54) ∷ ‵ (froom (tyRef erased mut (pointee (R-i64x128 .written))) l53 0) ∷ ‵ (fdies (tyRef erased mut (pointee (R-i64x128 .written))) l53) ∷ ‵ (froom MHead′.mir l52 0) ∷ ‵ (fdies MHead′.mir l52) ∷ ‵ (froom tyPtr l51 0) ∷ ‵ (fdies tyPtr l51) ∷ ‵ (froom tyPtr l50 0) ∷ ‵ (fdies tyPtr l50) ∷ ‵ (froom (tyInt w64) l49 0) ∷ ‵ (fdies (tyInt w64) l49) ∷ ‵ (froom MAnswerWords′.mir l48 0) ∷ ‵ (fdies MAnswerWords′.mir l48) ∷ ‵ (froom tyBool l47 0) ∷ ‵ (fdies tyBool l47) ∷ ‵ (froom tyPtr l46 0) ∷ ‵ (fdies tyPtr l46) ∷ ‵ (froom tyPtr l45 0) ∷ ‵ (fdies tyPtr l45) ∷ ‵ (froom tyPtr l44 0) ∷ ‵ (fdies tyPtr l44) ∷ ‵ (froom tyPtr l43 0) ∷ ‵ (fdies tyPtr l43) ∷ ‵ (froom MMasterWords′.mir l42 0) ∷ ‵ (fdies MMasterWords′.mir l42) ∷ ‵ (froom tyPtr l41 0) ∷ ‵ (fdies tyPtr l41) ∷ ‵ (froom MAnswerWords′.mir l40 0) ∷ ‵ (fdies MAnswerWords′.mir l40) ∷ ‵ (froom (tyInt w64) l39 0) ∷ ‵ (fdies (tyInt w64) l39) ∷ ‵ (froom MAnswerWords′.mir l38 0) ∷ ‵ (fdies MAnswerWords′.mir l38) ∷ ‵ (froom tyBool l37 0) ∷ ‵ (fdies tyBool l37) ∷ ‵ (froom (sliceTy (tyRef erased mut (tyInt w8))) l36 0) ∷ ‵ (fdies (sliceTy (tyRef erased mut (tyInt w8))) l36) ∷ ‵ (froom (tyRef erased mut (tyInt w8)) l35 0) ∷ ‵ (fdies (tyRef erased mut (tyInt w8)) l35) ∷ ‵ (froom tyBool l34 0) ∷ ‵ (fdies tyBool l34) ∷ ‵ (froom MServo′.mir l33 0) ∷ ‵ (fdies MServo′.mir l33) ∷ ‵ (froom MServo′.mir l32 0) ∷ ‵ (fdies MServo′.mir l32) ∷ ‵ (froom tyBool l31 0) ∷ ‵ (fdies tyBool l31) ∷ ‵ (froom MTold′.mir l30 0) ∷ ‵ (fdies MTold′.mir l30) ∷ ‵ (froom MDelaysWords′.mir l29 0) ∷ ‵ (fdies MDelaysWords′.mir l29) ∷ ‵ (froom MHalvesWords′.mir l28 0) ∷ ‵ (fdies MHalvesWords′.mir l28) ∷ ‵ (froom MEmptied′.mir l27 0) ∷ ‵ (fdies MEmptied′.mir l27) ∷ ‵ (froom tyBool l26 0) ∷ ‵ (fdies tyBool l26) ∷ ‵ (froom MHeld′.mir l25 0) ∷ ‵ (fdies MHeld′.mir l25) ∷ ‵ (froom MMasterWords′.mir l24 0) ∷ ‵ (fdies MMasterWords′.mir l24) ∷ ‵ (froom (tyInt w64) l23 0) ∷ ‵ (fdies (tyInt w64) l23) ∷ ‵ (froom tyBool l22 0) ∷ ‵ (fdies tyBool l22) ∷ ‵ (fat fullShare MSeat′.mir l21 0 w-59) ∷ ‵ (fdies MSeat′.mir l21) ∷ ‵ (fat fullShare MLooked′.mir l20 0 w-55) ∷ ‵ (fdies MLooked′.mir l20) ∷ ‵ (fat fullShare MLooked′.mir l19 0 w-50) ∷ ‵ (fdies MLooked′.mir l19) ∷ ‵ (fat fullShare MLooked′.mir l18 0 w-45) ∷ ‵ (fdies MLooked′.mir l18) ∷ ‵ (fat fullShare MLooked′.mir l17 0 w-40) ∷ ‵ (fdies MLooked′.mir l17) ∷ ‵ (fat fullShare MLooked′.mir l16 0 w-35) ∷ ‵ (fdies MLooked′.mir l16) ∷ ‵ (fat fullShare (tyInt w32) l15 0 w-30) ∷ ‵ (fdies (tyInt w32) l15) ∷ ‵ (froom tyBool l14 0) ∷ ‵ (fdies tyBool l14) ∷ ‵ (fat fullShare MStateWords′.mir l13 0 u-28) ∷ ‵ (fdies MStateWords′.mir l13) ∷ ‵ (fat fullShare MSettingsWords′.mir l12 0 u-24) ∷ ‵ (fdies MSettingsWords′.mir l12) ∷ ‵ (fat fullShare MMessage′.mir l11 0 ((parts-Received p-4 w-3 is-7) .pu0)) ∷ ‵ (fdies MMessage′.mir l11) ∷ ‵ (froom tyBool l10 0) ∷ ‵ (fdies tyBool l10) ∷ ‵ (froom MReceived′.mir l9 0) ∷ ‵ (fdies MReceived′.mir l9) ∷ ‵ (fat fullShare (tyRef (named 5) mut (pointee (R-AnswerWords .written))) l8 0 (vptr b8 o8)) ∷ ‵ (fdies (tyRef (named 5) mut (pointee (R-AnswerWords .written))) l8) ∷ ‵ (froom MStamp′.mir l7 0) ∷ ‵ (fdies MStamp′.mir l7) ∷ ‵ (fat fullShare (tyInt w64) l6 0 u6) ∷ ‵ (fdies (tyInt w64) l6) ∷ ‵ (froom (sliceTy (tyRef (named 4) mut (tyInt w8))) l5 0) ∷ ‵ (fdies (sliceTy (tyRef (named 4) mut (tyInt w8))) l5) ∷ ‵ (fat fullShare (tyRef (named 3) mut (pointee (R-Watch .written))) l4 0 (vptr b4 o4)) ∷ ‵ (fdies (tyRef (named 3) mut (pointee (R-Watch .written))) l4) ∷ ‵ (fat fullShare (sliceTy (tyRef (named 2) mut (pointee (R-MasterWords .written)))) l3 0 (sliceVal (b3, o3) (length h3))) ∷ ‵ (fdies (sliceTy (tyRef (named 2) mut (pointee (R-MasterWords .written)))) l3) ∷ ‵ (fat fullShare (tyRef (named 1) mut (pointee (R-Servo .written))) l2 0 (vptr b2 o2)) ∷ ‵ (fdies (tyRef (named 1) mut (pointee (R-Servo .written))) l2) ∷ ‵ (fat fullShare (tyRef (named 0) mut (pointee (R-UnitWords .written))) l1 0 (vptr b1 o1)) ∷ ‵ (fdies (tyRef (named 0) mut (pointee (R-UnitWords .written))) l1) ∷ ‵ (froom tyUnit l0 0) ∷ ‵ (fdies tyUnit l0) ∷ []) (runs C Λ En i-15-18 qq)
+      from-15-18 : (qq : Kit-Post 𝓤 H) (ee : post 𝓤 H qq returnsᴼ ≡ atReturn 𝓤 H En Post returnsᴼ) (zs-8 : List ℕ) (len-9 : length zs-8 ≡ length h5) (p-4 : SReceived.Received) (w-3 : Val) (e-6 : (p-4 ≡ receivedBy (readOf h5)) × (zs-8 ≡ h5)) (is-7 : Is R-Received p-4 (w-3 ∷ [])) (left1 : Holds (not (p-4 .barred))) (good : Holds (not (not (eqb (length h3) 5)))) (u-24 : Val) (g-25 : Is R-SettingsWords (h1 .settings) (u-24 ∷ [])) (u-28 : Val) (g-29 : Is R-StateWords (h1 .state) (u-28 ∷ [])) (held2 : Holds (p-4 .announces)) (p-31 : ℕ) (w-30 : Val) (e-32 : p-31 ≡ intervalOf ((h1 .settings) .announce)) (is-33 : Is R-u32 p-31 (w-30 ∷ [])) (g-34 : Is R-MasterWords (el 0) (v-MasterWords (el 0))) (p-36 : SLooked.Looked) (w-35 : Val) (e-37 : p-36 ≡ lookedOf (p-4 .message) h6 p-31 (recordIn (el 0))) (is-38 : Is R-Looked p-36 (w-35 ∷ [])) (g-39 : Is R-MasterWords (el 1) (v-MasterWords (el 1))) (p-41 : SLooked.Looked) (w-40 : Val) (e-42 : p-41 ≡ lookedOf (p-4 .message) h6 p-31 (recordIn (el 1))) (is-43 : Is R-Looked p-41 (w-40 ∷ [])) (g-44 : Is R-MasterWords (el 2) (v-MasterWords (el 2))) (p-46 : SLooked.Looked) (w-45 : Val) (e-47 : p-46 ≡ lookedOf (p-4 .message) h6 p-31 (recordIn (el 2))) (is-48 : Is R-Looked p-46 (w-45 ∷ [])) (g-49 : Is R-MasterWords (el 3) (v-MasterWords (el 3))) (p-51 : SLooked.Looked) (w-50 : Val) (e-52 : p-51 ≡ lookedOf (p-4 .message) h6 p-31 (recordIn (el 3))) (is-53 : Is R-Looked p-51 (w-50 ∷ [])) (g-54 : Is R-MasterWords (el 4) (v-MasterWords (el 4))) (p-56 : SLooked.Looked) (w-55 : Val) (e-57 : p-56 ≡ lookedOf (p-4 .message) h6 p-31 (recordIn (el 4))) (is-58 : Is R-Looked p-56 (w-55 ∷ [])) (p-60 : SSeat.Seat) (w-59 : Val) (e-61 : p-60 ≡ seatBy (h1 .settings) (h1 .state) (p-4 .message) h6 (p-36 .standing) (p-41 .standing) (p-46 .standing) (p-51 .standing) (p-56 .standing)) (is-62 : Is R-Seat p-60 (w-59 ∷ [])) → Sq W (‵ (fobs γ3 (codedHoleys R-MasterWords .code (heres R-MasterWords h3))) ∷ ‵ (fbor κ3 (Held R-MasterWords (length h3) b3 o3 γ3)) ∷ ‵ (flft κ3 q3) ∷ ‵ (fobs γ1 (R-UnitWords .coded .code h1)) ∷ ‵ (fbor κ1 (Body (mem R-UnitWords) b1 o1 γ1)) ∷ ‵ (flft κ1 q1) ∷ ‵ (MutSlice (named 4) κ5 R-u8 .own (x5 zs-8) ((sliceVal (b5, o5) (length h5)) ∷ [])) ∷ ‵ (flft κ5 q5) ∷ ‵ (flft κ8 q8) ∷ ‵ (flft κ4 q4) ∷ ‵ (flft κ2 q2) ∷ ‵ (ftrue) ∷ ‵ (fobs γ8 (R-AnswerWords .coded .code h8)) ∷ ‵ (fbor κ8 (Body (mem R-AnswerWords) b8 o8 γ8)) ∷ ‵ (R-Stamp .own h7 (u7 ∷ [])) ∷ ‵ (R-u64 .own h6 (u6 ∷ [])) ∷ ‵ (fobs γ4 (R-Watch .coded .code h4)) ∷ ‵ (fbor κ4 (Body (mem R-Watch) b4 o4 γ4)) ∷ ‵ (at-slice R-MasterWords (x3 h3) ((sliceVal (b3, o3) (length h3)) ∷ [])) ∷ ‵ (fobs γ2 (R-Servo .coded .code h2)) ∷ ‵ (fbor κ2 (Body (mem R-Servo) b2 o2 γ2)) ∷ ‵ (froom (tyRef erased mut (pointee (R-u8x128 .written))) l65 0) ∷ ‵ (fdies (tyRef erased mut (pointee (R-u8x128 .written))) l65) ∷ ‵ (froom (tyRef erased mut (pointee (R-i32x128 .written))) l64 0) ∷ ‵ (fdies (tyRef erased mut (pointee (R-i32x128 .written))) l64) ∷ ‵ (froom (tyRef erased mut (pointee (R-i64x128 .written))) l63 0) ∷ ‵ (fdies (tyRef erased mut (pointee (R-i64x128 .written))) l63) ∷ ‵ (froom MHead′.mir l62 0) ∷ ‵ (fdies MHead′.mir l62) ∷ ‵ (froom MAnswerWords′.mir l61 0) ∷ ‵ (fdies MAnswerWords′.mir l61) ∷ ‵ (froom MAnswerWords′.mir l60 0) ∷ ‵ (fdies MAnswerWords′.mir l60) ∷ ‵ (froom (tyRef erased mut (pointee (R-u8x128 .written))) l59 0) ∷ ‵ (fdies (tyRef erased mut (pointee (R-u8x128 .written))) l59) ∷ ‵ (froom (tyRef erased mut (pointee (R-i32x128 .written))) l58 0) ∷ ‵ (fdies (tyRef erased mut (pointee (R-i32x128 .written))) l58) ∷ ‵ (froom (tyRef erased mut (pointee (R-i64x128 .written))) l57 0) ∷ ‵ (fdies (tyRef erased mut (pointee (R-i64x128 .written))) l57) ∷ ‵ (froom MHead′.mir l56 0) ∷ ‵ (fdies MHead′.mir l56) ∷ ‵ (froom tyPtr l55 0) ∷ ‵ (fdies tyPtr l55) ∷ ‵ (froom tyPtr l54 0) ∷ ‵ (fdies tyPtr l54) ∷ ‵ (froom (tyInt w64) l53 0) ∷ ‵ (fdies (tyInt w64) l53) ∷ ‵ (froom MAnswerWords′.mir l52 0) ∷ ‵ (fdies MAnswerWords′.mir l52) ∷ ‵ (froom tyBool l51 0) ∷ ‵ (fdies tyBool l51) ∷ ‵ (froom tyPtr l50 0) ∷ ‵ (fdies tyPtr l50) ∷ ‵ (froom tyPtr l49 0) ∷ ‵ (fdies tyPtr l49) ∷ ‵ (froom tyPtr l48 0) ∷ ‵ (fdies tyPtr l48) ∷ ‵ (froom tyPtr l47 0) ∷ ‵ (fdies tyPtr l47) ∷ ‵ (froom MMasterWords′.mir l46 0) ∷ ‵ (fdies MMasterWords′.mir l46) ∷ ‵ (froom tyPtr l45 0) ∷ ‵ (fdies tyPtr l45) ∷ ‵ (froom MAnswerWords′.mir l44 0) ∷ ‵ (fdies MAnswerWords′.mir l44) ∷ ‵ (froom (tyInt w64) l43 0) ∷ ‵ (fdies (tyInt w64) l43) ∷ ‵ (froom MAnswerWords′.mir l42 0) ∷ ‵ (fdies MAnswerWords′.mir l42) ∷ ‵ (froom tyBool l41 0) ∷ ‵ (fdies tyBool l41) ∷ ‵ (froom (sliceTy (tyRef erased mut (tyInt w8))) l40 0) ∷ ‵ (fdies (sliceTy (tyRef erased mut (tyInt w8))) l40) ∷ ‵ (froom (tyRef erased mut (tyInt w8)) l39 0) ∷ ‵ (fdies (tyRef erased mut (tyInt w8)) l39) ∷ ‵ (froom (tyInt w16) l38 0) ∷ ‵ (fdies (tyInt w16) l38) ∷ ‵ (froom (tyInt w8) l37 0) ∷ ‵ (fdies (tyInt w8) l37) ∷ ‵ (froom MServo′.mir l36 0) ∷ ‵ (fdies MServo′.mir l36) ∷ ‵ (froom tyBool l35 0) ∷ ‵ (fdies tyBool l35) ∷ ‵ (froom tyBool l34 0) ∷ ‵ (fdies tyBool l34) ∷ ‵ (froom MAccepted′.mir l33 0) ∷ ‵ (fdies MAccepted′.mir l33) ∷ ‵ (froom MServo′.mir l32 0) ∷ ‵ (fdies MServo′.mir l32) ∷ ‵ (froom tyBool l31 0) ∷ ‵ (fdies tyBool l31) ∷ ‵ (froom MTold′.mir l30 0) ∷ ‵ (fdies MTold′.mir l30) ∷ ‵ (froom MDelaysWords′.mir l29 0) ∷ ‵ (fdies MDelaysWords′.mir l29) ∷ ‵ (froom MHalvesWords′.mir l28 0) ∷ ‵ (fdies MHalvesWords′.mir l28) ∷ ‵ (froom MEmptied′.mir l27 0) ∷ ‵ (fdies MEmptied′.mir l27) ∷ ‵ (froom tyBool l26 0) ∷ ‵ (fdies tyBool l26) ∷ ‵ (froom MHeld′.mir l25 0) ∷ ‵ (fdies MHeld′.mir l25) ∷ ‵ (froom MMasterWords′.mir l24 0) ∷ ‵ (fdies MMasterWords′.mir l24) ∷ ‵ (froom (tyInt w64) l23 0) ∷ ‵ (fdies (tyInt w64) l23) ∷ ‵ (froom tyBool l22 0) ∷ ‵ (fdies tyBool l22) ∷ ‵ (fat fullShare MSeat′.mir l21 0 w-59) ∷ ‵ (fdies MSeat′.mir l21) ∷ ‵ (fat fullShare MLooked′.mir l20 0 w-55) ∷ ‵ (fdies MLooked′.mir l20) ∷ ‵ (fat fullShare MLooked′.mir l19 0 w-50) ∷ ‵ (fdies MLooked′.mir l19) ∷ ‵ (fat fullShare MLooked′.mir l18 0 w-45) ∷ ‵ (fdies MLooked′.mir l18) ∷ ‵ (fat fullShare MLooked′.mir l17 0 w-40) ∷ ‵ (fdies MLooked′.mir l17) ∷ ‵ (fat fullShare MLooked′.mir l16 0 w-35) ∷ ‵ (fdies MLooked′.mir l16) ∷ ‵ (fat fullShare (tyInt w32) l15 0 w-30) ∷ ‵ (fdies (tyInt w32) l15) ∷ ‵ (froom tyBool l14 0) ∷ ‵ (fdies tyBool l14) ∷ ‵ (fat fullShare MStateWords′.mir l13 0 u-28) ∷ ‵ (fdies MStateWords′.mir l13) ∷ ‵ (fat fullShare MSettingsWords′.mir l12 0 u-24) ∷ ‵ (fdies MSettingsWords′.mir l12) ∷ ‵ (fat fullShare MMessage′.mir l11 0 ((parts-Received p-4 w-3 is-7) .pu0)) ∷ ‵ (fdies MMessage′.mir l11) ∷ ‵ (froom tyBool l10 0) ∷ ‵ (fdies tyBool l10) ∷ ‵ (froom MReceived′.mir l9 0) ∷ ‵ (fdies MReceived′.mir l9) ∷ ‵ (fat fullShare (tyRef (named 5) mut (pointee (R-AnswerWords .written))) l8 0 (vptr b8 o8)) ∷ ‵ (fdies (tyRef (named 5) mut (pointee (R-AnswerWords .written))) l8) ∷ ‵ (froom MStamp′.mir l7 0) ∷ ‵ (fdies MStamp′.mir l7) ∷ ‵ (fat fullShare (tyInt w64) l6 0 u6) ∷ ‵ (fdies (tyInt w64) l6) ∷ ‵ (froom (sliceTy (tyRef (named 4) mut (tyInt w8))) l5 0) ∷ ‵ (fdies (sliceTy (tyRef (named 4) mut (tyInt w8))) l5) ∷ ‵ (fat fullShare (tyRef (named 3) mut (pointee (R-Watch .written))) l4 0 (vptr b4 o4)) ∷ ‵ (fdies (tyRef (named 3) mut (pointee (R-Watch .written))) l4) ∷ ‵ (fat fullShare (sliceTy (tyRef (named 2) mut (pointee (R-MasterWords .written)))) l3 0 (sliceVal (b3, o3) (length h3))) ∷ ‵ (fdies (sliceTy (tyRef (named 2) mut (pointee (R-MasterWords .written)))) l3) ∷ ‵ (fat fullShare (tyRef (named 1) mut (pointee (R-Servo .written))) l2 0 (vptr b2 o2)) ∷ ‵ (fdies (tyRef (named 1) mut (pointee (R-Servo .written))) l2) ∷ ‵ (fat fullShare (tyRef (named 0) mut (pointee (R-UnitWords .written))) l1 0 (vptr b1 o1)) ∷ ‵ (fdies (tyRef (named 0) mut (pointee (R-UnitWords .written))) l1) ∷ ‵ (froom tyUnit l0 0) ∷ ‵ (fdies tyUnit l0) ∷ []) (runs C Λ En i-15-18 qq)
       from-15-18 qq ee zs-8 len-9 p-4 w-3 e-6 is-7 left1 good u-24 g-25 u-28 g-29 held2 p-31 w-30 e-32 is-33 g-34 p-36 w-35 e-37 is-38 g-39 p-41 w-40 e-42 is-43 g-44 p-46 w-45 e-47 is-48 g-49 p-51 w-50 e-52 is-53 g-54 p-56 w-55 e-57 is-58 p-60 w-59 e-61 is-62 =
-          rewrite ! 101 (λ (u : Val). ‵ (fat fullShare MSeat′.mir l21 0 u)) ((parts-Seat p-60 w-59 is-62) .whole-is) refl $
-          assigns ! (of-opd ! (load ! (from ! (fld ! {τ = tyBool} {d = off-Seat-0} field-Seat-0 (stop !))) (look-in ! 101 (sub ! {ν = name-of MSeat′.mir} {τs = tys-of MSeat′.mir} 0 {τ = tyBool} {d = off-Seat-0} field-Seat-0 (whole !))))) (from ! (stop !)) (init ! 99 refl (lawful-bool 𝓤 H A W .typed (p-60 .barred) _ ((parts-Seat p-60 w-59 is-62) .pg0) .0)) $
-          assigns ! (of-opd ! (load ! (from ! (stop !)) (look ! 99 refl))) (from ! (stop !)) (init ! 49 refl (lawful-bool 𝓤 H A W .typed (p-60 .barred) _ ((parts-Seat p-60 w-59 is-62) .pg0) .0)) $
-          rewrite ! 49 (λ (u : Val). ‵ (fat fullShare tyBool l47 0 u)) (ap only (tells-bool (p-60 .barred) (((parts-Seat p-60 w-59 is-62) .pu0) ∷ []) ((parts-Seat p-60 w-59 is-62) .pg0))) refl $
+          rewrite ! 109 (λ (u : Val). ‵ (fat fullShare MSeat′.mir l21 0 u)) ((parts-Seat p-60 w-59 is-62) .whole-is) refl $
+          assigns ! (of-opd ! (load ! (from ! (fld ! {τ = tyBool} {d = off-Seat-0} field-Seat-0 (stop !))) (look-in ! 109 (sub ! {ν = name-of MSeat′.mir} {τs = tys-of MSeat′.mir} 0 {τ = tyBool} {d = off-Seat-0} field-Seat-0 (whole !))))) (from ! (stop !)) (init ! 107 refl (lawful-bool 𝓤 H A W .typed (p-60 .barred) _ ((parts-Seat p-60 w-59 is-62) .pg0) .0)) $
+          assigns ! (of-opd ! (load ! (from ! (stop !)) (look ! 107 refl))) (from ! (stop !)) (init ! 49 refl (lawful-bool 𝓤 H A W .typed (p-60 .barred) _ ((parts-Seat p-60 w-59 is-62) .pg0) .0)) $
+          rewrite ! 49 (λ (u : Val). ‵ (fat fullShare tyBool l51 0 u)) (ap only (tells-bool (p-60 .barred) (((parts-Seat p-60 w-59 is-62) .pu0) ∷ []) ((parts-Seat p-60 w-59 is-62) .pg0))) refl $
           first ! $ branches ! (load ! (from ! (stop !)) (look ! 49 refl))
-          (λ held3. forget ! 141 refl $ forget ! 139 refl $ forget ! 137 refl $ forget ! 135 refl $ forget ! 131 refl $ forget ! 121 refl $ forget ! 119 refl $ forget ! 117 refl $ forget ! 113 refl $ forget ! 111 refl $ forget ! 109 refl $ forget ! 107 refl $ forget ! 105 refl $ forget ! 103 refl $ forget ! 99 refl $ forget ! 49 refl $ from-15-20-1 _ ee zs-8 len-9 p-4 w-3 e-6 is-7 left1 good u-24 g-25 u-28 g-29 held2 p-31 w-30 e-32 is-33 g-34 p-36 w-35 e-37 is-38 g-39 p-41 w-40 e-42 is-43 g-44 p-46 w-45 e-47 is-48 g-49 p-51 w-50 e-52 is-53 g-54 p-56 w-55 e-57 is-58 p-60 w-59 e-61 is-62 held3)
+          (λ held3. forget ! 149 refl $ forget ! 147 refl $ forget ! 145 refl $ forget ! 143 refl $ forget ! 139 refl $ forget ! 129 refl $ forget ! 127 refl $ forget ! 125 refl $ forget ! 121 refl $ forget ! 119 refl $ forget ! 117 refl $ forget ! 115 refl $ forget ! 113 refl $ forget ! 111 refl $ forget ! 107 refl $ forget ! 49 refl $ from-15-20-1 _ ee zs-8 len-9 p-4 w-3 e-6 is-7 left1 good u-24 g-25 u-28 g-29 held2 p-31 w-30 e-32 is-33 g-34 p-36 w-35 e-37 is-38 g-39 p-41 w-40 e-42 is-43 g-44 p-46 w-45 e-47 is-48 g-49 p-51 w-50 e-52 is-53 g-54 p-56 w-55 e-57 is-58 p-60 w-59 e-61 is-62 held3)
           (λ left3. skips ! $ exec ! C Λ En i-15-21 qq $
-          forget ! 99 refl $ forget ! 49 refl $
+          forget ! 107 refl $ forget ! 49 refl $
           from-15-21 qq ee zs-8 len-9 p-4 w-3 e-6 is-7 left1 good u-24 g-25 u-28 g-29 held2 p-31 w-30 e-32 is-33 g-34 p-36 w-35 e-37 is-38 g-39 p-41 w-40 e-42 is-43 g-44 p-46 w-45 e-47 is-48 g-49 p-51 w-50 e-52 is-53 g-54 p-56 w-55 e-57 is-58 p-60 w-59 e-61 is-62 left3)
 
-      from-15-17 : (qq : Kit-Post 𝓤 H) (ee : post 𝓤 H qq returnsᴼ ≡ atReturn 𝓤 H En Post returnsᴼ) (zs-8 : List ℕ) (len-9 : length zs-8 ≡ length h5) (p-4 : SReceived.Received) (w-3 : Val) (e-6 : (p-4 ≡ receivedBy (readOf h5)) × (zs-8 ≡ h5)) (is-7 : Is R-Received p-4 (w-3 ∷ [])) (left1 : Holds (not (p-4 .barred))) (good : Holds (not (not (eqb (length h3) 5)))) (u-24 : Val) (g-25 : Is R-SettingsWords (h1 .settings) (u-24 ∷ [])) (u-28 : Val) (g-29 : Is R-StateWords (h1 .state) (u-28 ∷ [])) (held2 : Holds (p-4 .announces)) (p-31 : ℕ) (w-30 : Val) (e-32 : p-31 ≡ intervalOf ((h1 .settings) .announce)) (is-33 : Is R-u32 p-31 (w-30 ∷ [])) (g-34 : Is R-MasterWords (el 0) (v-MasterWords (el 0))) (p-36 : SLooked.Looked) (w-35 : Val) (e-37 : p-36 ≡ lookedOf (p-4 .message) h6 p-31 (recordIn (el 0))) (is-38 : Is R-Looked p-36 (w-35 ∷ [])) (g-39 : Is R-MasterWords (el 1) (v-MasterWords (el 1))) (p-41 : SLooked.Looked) (w-40 : Val) (e-42 : p-41 ≡ lookedOf (p-4 .message) h6 p-31 (recordIn (el 1))) (is-43 : Is R-Looked p-41 (w-40 ∷ [])) (g-44 : Is R-MasterWords (el 2) (v-MasterWords (el 2))) (p-46 : SLooked.Looked) (w-45 : Val) (e-47 : p-46 ≡ lookedOf (p-4 .message) h6 p-31 (recordIn (el 2))) (is-48 : Is R-Looked p-46 (w-45 ∷ [])) (g-49 : Is R-MasterWords (el 3) (v-MasterWords (el 3))) (p-51 : SLooked.Looked) (w-50 : Val) (e-52 : p-51 ≡ lookedOf (p-4 .message) h6 p-31 (recordIn (el 3))) (is-53 : Is R-Looked p-51 (w-50 ∷ [])) (g-54 : Is R-MasterWords (el 4) (v-MasterWords (el 4))) (p-56 : SLooked.Looked) (w-55 : Val) (e-57 : p-56 ≡ lookedOf (p-4 .message) h6 p-31 (recordIn (el 4))) (is-58 : Is R-Looked p-56 (w-55 ∷ [])) → Sq W (‵ (fobs γ3 (codedHoleys R-MasterWords .code (heres R-MasterWords h3))) ∷ ‵ (fbor κ3 (Held R-MasterWords (length h3) b3 o3 γ3)) ∷ ‵ (flft κ3 q3) ∷ ‵ (fobs γ1 (R-UnitWords .coded .code h1)) ∷ ‵ (fbor κ1 (Body (mem R-UnitWords) b1 o1 γ1)) ∷ ‵ (flft κ1 q1) ∷ ‵ (MutSlice (named 4) κ5 R-u8 .own (x5 zs-8) ((sliceVal (b5, o5) (length h5)) ∷ [])) ∷ ‵ (flft κ5 q5) ∷ ‵ (flft κ8 q8) ∷ ‵ (flft κ4 q4) ∷ ‵ (flft κ2 q2) ∷ ‵ (ftrue) ∷ ‵ (fobs γ8 (R-AnswerWords .coded .code h8)) ∷ ‵ (fbor κ8 (Body (mem R-AnswerWords) b8 o8 γ8)) ∷ ‵ (R-Stamp .own h7 (u7 ∷ [])) ∷ ‵ (R-u64 .own h6 (u6 ∷ [])) ∷ ‵ (fobs γ4 (R-Watch .coded .code h4)) ∷ ‵ (fbor κ4 (Body (mem R-Watch) b4 o4 γ4)) ∷ ‵ (at-slice R-MasterWords (x3 h3) ((sliceVal (b3, o3) (length h3)) ∷ [])) ∷ ‵ (fobs γ2 (R-Servo .coded .code h2)) ∷ ‵ (fbor κ2 (Body (mem R-Servo) b2 o2 γ2)) ∷ ‵ (froom (tyRef erased mut (pointee (R-u8x128 .written))) l61 0) ∷ ‵ (fdies (tyRef erased mut (pointee (R-u8x128 .written))) l61) ∷ ‵ (froom (tyRef erased mut (pointee (R-i32x128 .written))) l60 0) ∷ ‵ (fdies (tyRef erased mut (pointee (R-i32x128 .written))) l60) ∷ ‵ (froom (tyRef erased mut (pointee (R-i64x128 .written))) l59 0) ∷ ‵ (fdies (tyRef erased mut (pointee (R-i64x128 .written))) l59) ∷ ‵ (froom MHead′.mir l58 0) ∷ ‵ (fdies MHead′.mir l58) ∷ ‵ (froom MAnswerWords′.mir l57 0) ∷ ‵ (fdies MAnswerWords′.mir l57) ∷ ‵ (froom MAnswerWords′.mir l56 0) ∷ ‵ (fdies MAnswerWords′.mir l56) ∷ ‵ (froom (tyRef erased mut (pointee (R-u8x128 .written))) l55 0) ∷ ‵ (fdies (tyRef erased mut (pointee (R-u8x128 .written))) l55) ∷ ‵ (froom (tyRef erased mut (pointee (R-i32x128 .written))) l54 0) ∷ ‵ (fdies (tyRef erased mut (pointee (R-i32x128 .written))) l54) ∷ ‵ (froom (tyRef erased mut (pointee (R-i64x128 .written))) l53 0) ∷ ‵ (fdies (tyRef erased mut (pointee (R-i64x128 .written))) l53) ∷ ‵ (froom MHead′.mir l52 0) ∷ ‵ (fdies MHead′.mir l52) ∷ ‵ (froom tyPtr l51 0) ∷ ‵ (fdies tyPtr l51) ∷ ‵ (froom tyPtr l50 0) ∷ ‵ (fdies tyPtr l50) ∷ ‵ (froom (tyInt w64) l49 0) ∷ ‵ (fdies (tyInt w64) l49) ∷ ‵ (froom MAnswerWords′.mir l48 0) ∷ ‵ (fdies MAnswerWords′.mir l48) ∷ ‵ (froom tyBool l47 0) ∷ ‵ (fdies tyBool l47) ∷ ‵ (froom tyPtr l46 0) ∷ ‵ (fdies tyPtr l46) ∷ ‵ (froom tyPtr l45 0) ∷ ‵ (fdies tyPtr l45) ∷ ‵ (froom tyPtr l44 0) ∷ ‵ (fdies tyPtr l44) ∷ ‵ (froom tyPtr l43 0) ∷ ‵ (fdies tyPtr l43) ∷ ‵ (froom MMasterWords′.mir l42 0) ∷ ‵ (fdies MMasterWords′.mir l42) ∷ ‵ (froom tyPtr l41 0) ∷ ‵ (fdies tyPtr l41) ∷ ‵ (froom MAnswerWords′.mir l40 0) ∷ ‵ (fdies MAnswerWords′.mir l40) ∷ ‵ (froom (tyInt w64) l39 0) ∷ ‵ (fdies (tyInt w64) l39) ∷ ‵ (froom MAnswerWords′.mir l38 0) ∷ ‵ (fdies MAnswerWords′.mir l38) ∷ ‵ (froom tyBool l37 0) ∷ ‵ (fdies tyBool l37) ∷ ‵ (froom (sliceTy (tyRef erased mut (tyInt w8))) l36 0) ∷ ‵ (fdies (sliceTy (tyRef erased mut (tyInt w8))) l36) ∷ ‵ (froom (tyRef erased mut (tyInt w8)) l35 0) ∷ ‵ (fdies (tyRef erased mut (tyInt w8)) l35) ∷ ‵ (froom tyBool l34 0) ∷ ‵ (fdies tyBool l34) ∷ ‵ (froom MServo′.mir l33 0) ∷ ‵ (fdies MServo′.mir l33) ∷ ‵ (froom MServo′.mir l32 0) ∷ ‵ (fdies MServo′.mir l32) ∷ ‵ (froom tyBool l31 0) ∷ ‵ (fdies tyBool l31) ∷ ‵ (froom MTold′.mir l30 0) ∷ ‵ (fdies MTold′.mir l30) ∷ ‵ (froom MDelaysWords′.mir l29 0) ∷ ‵ (fdies MDelaysWords′.mir l29) ∷ ‵ (froom MHalvesWords′.mir l28 0) ∷ ‵ (fdies MHalvesWords′.mir l28) ∷ ‵ (froom MEmptied′.mir l27 0) ∷ ‵ (fdies MEmptied′.mir l27) ∷ ‵ (froom tyBool l26 0) ∷ ‵ (fdies tyBool l26) ∷ ‵ (froom MHeld′.mir l25 0) ∷ ‵ (fdies MHeld′.mir l25) ∷ ‵ (froom MMasterWords′.mir l24 0) ∷ ‵ (fdies MMasterWords′.mir l24) ∷ ‵ (froom (tyInt w64) l23 0) ∷ ‵ (fdies (tyInt w64) l23) ∷ ‵ (froom tyBool l22 0) ∷ ‵ (fdies tyBool l22) ∷ ‵ (froom MSeat′.mir l21 0) ∷ ‵ (fdies MSeat′.mir l21) ∷ ‵ (fat fullShare MLooked′.mir l20 0 w-55) ∷ ‵ (fdies MLooked′.mir l20) ∷ ‵ (fat fullShare MLooked′.mir l19 0 w-50) ∷ ‵ (fdies MLooked′.mir l19) ∷ ‵ (fat fullShare MLooked′.mir l18 0 w-45) ∷ ‵ (fdies MLooked′.mir l18) ∷ ‵ (fat fullShare MLooked′.mir l17 0 w-40) ∷ ‵ (fdies MLooked′.mir l17) ∷ ‵ (fat fullShare MLooked′.mir l16 0 w-35) ∷ ‵ (fdies MLooked′.mir l16) ∷ ‵ (fat fullShare (tyInt w32) l15 0 w-30) ∷ ‵ (fdies (tyInt w32) l15) ∷ ‵ (froom tyBool l14 0) ∷ ‵ (fdies tyBool l14) ∷ ‵ (fat fullShare MStateWords′.mir l13 0 u-28) ∷ ‵ (fdies MStateWords′.mir l13) ∷ ‵ (fat fullShare MSettingsWords′.mir l12 0 u-24) ∷ ‵ (fdies MSettingsWords′.mir l12) ∷ ‵ (fat fullShare MMessage′.mir l11 0 ((parts-Received p-4 w-3 is-7) .pu0)) ∷ ‵ (fdies MMessage′.mir l11) ∷ ‵ (froom tyBool l10 0) ∷ ‵ (fdies tyBool l10) ∷ ‵ (froom MReceived′.mir l9 0) ∷ ‵ (fdies MReceived′.mir l9) ∷ ‵ (fat fullShare (tyRef (named 5) mut (pointee (R-AnswerWords .written))) l8 0 (vptr b8 o8)) ∷ ‵ (fdies (tyRef (named 5) mut (pointee (R-AnswerWords .written))) l8) ∷ ‵ (froom MStamp′.mir l7 0) ∷ ‵ (fdies MStamp′.mir l7) ∷ ‵ (fat fullShare (tyInt w64) l6 0 u6) ∷ ‵ (fdies (tyInt w64) l6) ∷ ‵ (froom (sliceTy (tyRef (named 4) mut (tyInt w8))) l5 0) ∷ ‵ (fdies (sliceTy (tyRef (named 4) mut (tyInt w8))) l5) ∷ ‵ (fat fullShare (tyRef (named 3) mut (pointee (R-Watch .written))) l4 0 (vptr b4 o4)) ∷ ‵ (fdies (tyRef (named 3) mut (pointee (R-Watch .written))) l4) ∷ ‵ (fat fullShare (sliceTy (tyRef (named 2) mut (pointee (R-MasterWords .written)))) l3 0 (sliceVal (b3, o3) (length h3))) ∷ ‵ (fdies (sliceTy (tyRef (named 2) mut (pointee (R-MasterWords .written)))) l3) ∷ ‵ (fat fullShare (tyRef (named 1) mut (pointee (R-Servo .written))) l2 0 (vptr b2 o2)) ∷ ‵ (fdies (tyRef (named 1) mut (pointee (R-Servo .written))) l2) ∷ ‵ (fat fullShare (tyRef (named 0) mut (pointee (R-UnitWords .written))) l1 0 (vptr b1 o1)) ∷ ‵ (fdies (tyRef (named 0) mut (pointee (R-UnitWords .written))) l1) ∷ ‵ (froom tyUnit l0 0) ∷ ‵ (fdies tyUnit l0) ∷ []) (runs C Λ En i-15-17 qq)
+      from-15-17 : (qq : Kit-Post 𝓤 H) (ee : post 𝓤 H qq returnsᴼ ≡ atReturn 𝓤 H En Post returnsᴼ) (zs-8 : List ℕ) (len-9 : length zs-8 ≡ length h5) (p-4 : SReceived.Received) (w-3 : Val) (e-6 : (p-4 ≡ receivedBy (readOf h5)) × (zs-8 ≡ h5)) (is-7 : Is R-Received p-4 (w-3 ∷ [])) (left1 : Holds (not (p-4 .barred))) (good : Holds (not (not (eqb (length h3) 5)))) (u-24 : Val) (g-25 : Is R-SettingsWords (h1 .settings) (u-24 ∷ [])) (u-28 : Val) (g-29 : Is R-StateWords (h1 .state) (u-28 ∷ [])) (held2 : Holds (p-4 .announces)) (p-31 : ℕ) (w-30 : Val) (e-32 : p-31 ≡ intervalOf ((h1 .settings) .announce)) (is-33 : Is R-u32 p-31 (w-30 ∷ [])) (g-34 : Is R-MasterWords (el 0) (v-MasterWords (el 0))) (p-36 : SLooked.Looked) (w-35 : Val) (e-37 : p-36 ≡ lookedOf (p-4 .message) h6 p-31 (recordIn (el 0))) (is-38 : Is R-Looked p-36 (w-35 ∷ [])) (g-39 : Is R-MasterWords (el 1) (v-MasterWords (el 1))) (p-41 : SLooked.Looked) (w-40 : Val) (e-42 : p-41 ≡ lookedOf (p-4 .message) h6 p-31 (recordIn (el 1))) (is-43 : Is R-Looked p-41 (w-40 ∷ [])) (g-44 : Is R-MasterWords (el 2) (v-MasterWords (el 2))) (p-46 : SLooked.Looked) (w-45 : Val) (e-47 : p-46 ≡ lookedOf (p-4 .message) h6 p-31 (recordIn (el 2))) (is-48 : Is R-Looked p-46 (w-45 ∷ [])) (g-49 : Is R-MasterWords (el 3) (v-MasterWords (el 3))) (p-51 : SLooked.Looked) (w-50 : Val) (e-52 : p-51 ≡ lookedOf (p-4 .message) h6 p-31 (recordIn (el 3))) (is-53 : Is R-Looked p-51 (w-50 ∷ [])) (g-54 : Is R-MasterWords (el 4) (v-MasterWords (el 4))) (p-56 : SLooked.Looked) (w-55 : Val) (e-57 : p-56 ≡ lookedOf (p-4 .message) h6 p-31 (recordIn (el 4))) (is-58 : Is R-Looked p-56 (w-55 ∷ [])) → Sq W (‵ (fobs γ3 (codedHoleys R-MasterWords .code (heres R-MasterWords h3))) ∷ ‵ (fbor κ3 (Held R-MasterWords (length h3) b3 o3 γ3)) ∷ ‵ (flft κ3 q3) ∷ ‵ (fobs γ1 (R-UnitWords .coded .code h1)) ∷ ‵ (fbor κ1 (Body (mem R-UnitWords) b1 o1 γ1)) ∷ ‵ (flft κ1 q1) ∷ ‵ (MutSlice (named 4) κ5 R-u8 .own (x5 zs-8) ((sliceVal (b5, o5) (length h5)) ∷ [])) ∷ ‵ (flft κ5 q5) ∷ ‵ (flft κ8 q8) ∷ ‵ (flft κ4 q4) ∷ ‵ (flft κ2 q2) ∷ ‵ (ftrue) ∷ ‵ (fobs γ8 (R-AnswerWords .coded .code h8)) ∷ ‵ (fbor κ8 (Body (mem R-AnswerWords) b8 o8 γ8)) ∷ ‵ (R-Stamp .own h7 (u7 ∷ [])) ∷ ‵ (R-u64 .own h6 (u6 ∷ [])) ∷ ‵ (fobs γ4 (R-Watch .coded .code h4)) ∷ ‵ (fbor κ4 (Body (mem R-Watch) b4 o4 γ4)) ∷ ‵ (at-slice R-MasterWords (x3 h3) ((sliceVal (b3, o3) (length h3)) ∷ [])) ∷ ‵ (fobs γ2 (R-Servo .coded .code h2)) ∷ ‵ (fbor κ2 (Body (mem R-Servo) b2 o2 γ2)) ∷ ‵ (froom (tyRef erased mut (pointee (R-u8x128 .written))) l65 0) ∷ ‵ (fdies (tyRef erased mut (pointee (R-u8x128 .written))) l65) ∷ ‵ (froom (tyRef erased mut (pointee (R-i32x128 .written))) l64 0) ∷ ‵ (fdies (tyRef erased mut (pointee (R-i32x128 .written))) l64) ∷ ‵ (froom (tyRef erased mut (pointee (R-i64x128 .written))) l63 0) ∷ ‵ (fdies (tyRef erased mut (pointee (R-i64x128 .written))) l63) ∷ ‵ (froom MHead′.mir l62 0) ∷ ‵ (fdies MHead′.mir l62) ∷ ‵ (froom MAnswerWords′.mir l61 0) ∷ ‵ (fdies MAnswerWords′.mir l61) ∷ ‵ (froom MAnswerWords′.mir l60 0) ∷ ‵ (fdies MAnswerWords′.mir l60) ∷ ‵ (froom (tyRef erased mut (pointee (R-u8x128 .written))) l59 0) ∷ ‵ (fdies (tyRef erased mut (pointee (R-u8x128 .written))) l59) ∷ ‵ (froom (tyRef erased mut (pointee (R-i32x128 .written))) l58 0) ∷ ‵ (fdies (tyRef erased mut (pointee (R-i32x128 .written))) l58) ∷ ‵ (froom (tyRef erased mut (pointee (R-i64x128 .written))) l57 0) ∷ ‵ (fdies (tyRef erased mut (pointee (R-i64x128 .written))) l57) ∷ ‵ (froom MHead′.mir l56 0) ∷ ‵ (fdies MHead′.mir l56) ∷ ‵ (froom tyPtr l55 0) ∷ ‵ (fdies tyPtr l55) ∷ ‵ (froom tyPtr l54 0) ∷ ‵ (fdies tyPtr l54) ∷ ‵ (froom (tyInt w64) l53 0) ∷ ‵ (fdies (tyInt w64) l53) ∷ ‵ (froom MAnswerWords′.mir l52 0) ∷ ‵ (fdies MAnswerWords′.mir l52) ∷ ‵ (froom tyBool l51 0) ∷ ‵ (fdies tyBool l51) ∷ ‵ (froom tyPtr l50 0) ∷ ‵ (fdies tyPtr l50) ∷ ‵ (froom tyPtr l49 0) ∷ ‵ (fdies tyPtr l49) ∷ ‵ (froom tyPtr l48 0) ∷ ‵ (fdies tyPtr l48) ∷ ‵ (froom tyPtr l47 0) ∷ ‵ (fdies tyPtr l47) ∷ ‵ (froom MMasterWords′.mir l46 0) ∷ ‵ (fdies MMasterWords′.mir l46) ∷ ‵ (froom tyPtr l45 0) ∷ ‵ (fdies tyPtr l45) ∷ ‵ (froom MAnswerWords′.mir l44 0) ∷ ‵ (fdies MAnswerWords′.mir l44) ∷ ‵ (froom (tyInt w64) l43 0) ∷ ‵ (fdies (tyInt w64) l43) ∷ ‵ (froom MAnswerWords′.mir l42 0) ∷ ‵ (fdies MAnswerWords′.mir l42) ∷ ‵ (froom tyBool l41 0) ∷ ‵ (fdies tyBool l41) ∷ ‵ (froom (sliceTy (tyRef erased mut (tyInt w8))) l40 0) ∷ ‵ (fdies (sliceTy (tyRef erased mut (tyInt w8))) l40) ∷ ‵ (froom (tyRef erased mut (tyInt w8)) l39 0) ∷ ‵ (fdies (tyRef erased mut (tyInt w8)) l39) ∷ ‵ (froom (tyInt w16) l38 0) ∷ ‵ (fdies (tyInt w16) l38) ∷ ‵ (froom (tyInt w8) l37 0) ∷ ‵ (fdies (tyInt w8) l37) ∷ ‵ (froom MServo′.mir l36 0) ∷ ‵ (fdies MServo′.mir l36) ∷ ‵ (froom tyBool l35 0) ∷ ‵ (fdies tyBool l35) ∷ ‵ (froom tyBool l34 0) ∷ ‵ (fdies tyBool l34) ∷ ‵ (froom MAccepted′.mir l33 0) ∷ ‵ (fdies MAccepted′.mir l33) ∷ ‵ (froom MServo′.mir l32 0) ∷ ‵ (fdies MServo′.mir l32) ∷ ‵ (froom tyBool l31 0) ∷ ‵ (fdies tyBool l31) ∷ ‵ (froom MTold′.mir l30 0) ∷ ‵ (fdies MTold′.mir l30) ∷ ‵ (froom MDelaysWords′.mir l29 0) ∷ ‵ (fdies MDelaysWords′.mir l29) ∷ ‵ (froom MHalvesWords′.mir l28 0) ∷ ‵ (fdies MHalvesWords′.mir l28) ∷ ‵ (froom MEmptied′.mir l27 0) ∷ ‵ (fdies MEmptied′.mir l27) ∷ ‵ (froom tyBool l26 0) ∷ ‵ (fdies tyBool l26) ∷ ‵ (froom MHeld′.mir l25 0) ∷ ‵ (fdies MHeld′.mir l25) ∷ ‵ (froom MMasterWords′.mir l24 0) ∷ ‵ (fdies MMasterWords′.mir l24) ∷ ‵ (froom (tyInt w64) l23 0) ∷ ‵ (fdies (tyInt w64) l23) ∷ ‵ (froom tyBool l22 0) ∷ ‵ (fdies tyBool l22) ∷ ‵ (froom MSeat′.mir l21 0) ∷ ‵ (fdies MSeat′.mir l21) ∷ ‵ (fat fullShare MLooked′.mir l20 0 w-55) ∷ ‵ (fdies MLooked′.mir l20) ∷ ‵ (fat fullShare MLooked′.mir l19 0 w-50) ∷ ‵ (fdies MLooked′.mir l19) ∷ ‵ (fat fullShare MLooked′.mir l18 0 w-45) ∷ ‵ (fdies MLooked′.mir l18) ∷ ‵ (fat fullShare MLooked′.mir l17 0 w-40) ∷ ‵ (fdies MLooked′.mir l17) ∷ ‵ (fat fullShare MLooked′.mir l16 0 w-35) ∷ ‵ (fdies MLooked′.mir l16) ∷ ‵ (fat fullShare (tyInt w32) l15 0 w-30) ∷ ‵ (fdies (tyInt w32) l15) ∷ ‵ (froom tyBool l14 0) ∷ ‵ (fdies tyBool l14) ∷ ‵ (fat fullShare MStateWords′.mir l13 0 u-28) ∷ ‵ (fdies MStateWords′.mir l13) ∷ ‵ (fat fullShare MSettingsWords′.mir l12 0 u-24) ∷ ‵ (fdies MSettingsWords′.mir l12) ∷ ‵ (fat fullShare MMessage′.mir l11 0 ((parts-Received p-4 w-3 is-7) .pu0)) ∷ ‵ (fdies MMessage′.mir l11) ∷ ‵ (froom tyBool l10 0) ∷ ‵ (fdies tyBool l10) ∷ ‵ (froom MReceived′.mir l9 0) ∷ ‵ (fdies MReceived′.mir l9) ∷ ‵ (fat fullShare (tyRef (named 5) mut (pointee (R-AnswerWords .written))) l8 0 (vptr b8 o8)) ∷ ‵ (fdies (tyRef (named 5) mut (pointee (R-AnswerWords .written))) l8) ∷ ‵ (froom MStamp′.mir l7 0) ∷ ‵ (fdies MStamp′.mir l7) ∷ ‵ (fat fullShare (tyInt w64) l6 0 u6) ∷ ‵ (fdies (tyInt w64) l6) ∷ ‵ (froom (sliceTy (tyRef (named 4) mut (tyInt w8))) l5 0) ∷ ‵ (fdies (sliceTy (tyRef (named 4) mut (tyInt w8))) l5) ∷ ‵ (fat fullShare (tyRef (named 3) mut (pointee (R-Watch .written))) l4 0 (vptr b4 o4)) ∷ ‵ (fdies (tyRef (named 3) mut (pointee (R-Watch .written))) l4) ∷ ‵ (fat fullShare (sliceTy (tyRef (named 2) mut (pointee (R-MasterWords .written)))) l3 0 (sliceVal (b3, o3) (length h3))) ∷ ‵ (fdies (sliceTy (tyRef (named 2) mut (pointee (R-MasterWords .written)))) l3) ∷ ‵ (fat fullShare (tyRef (named 1) mut (pointee (R-Servo .written))) l2 0 (vptr b2 o2)) ∷ ‵ (fdies (tyRef (named 1) mut (pointee (R-Servo .written))) l2) ∷ ‵ (fat fullShare (tyRef (named 0) mut (pointee (R-UnitWords .written))) l1 0 (vptr b1 o1)) ∷ ‵ (fdies (tyRef (named 0) mut (pointee (R-UnitWords .written))) l1) ∷ ‵ (froom tyUnit l0 0) ∷ ‵ (fdies tyUnit l0) ∷ []) (runs C Λ En i-15-17 qq)
       from-15-17 qq ee zs-8 len-9 p-4 w-3 e-6 is-7 left1 good u-24 g-25 u-28 g-29 held2 p-31 w-30 e-32 is-33 g-34 p-36 w-35 e-37 is-38 g-39 p-41 w-40 e-42 is-43 g-44 p-46 w-45 e-47 is-48 g-49 p-51 w-50 e-52 is-53 g-54 p-56 w-55 e-57 is-58 =
           use0 W (raw (C-seat-in 𝓤 H A at-mem run .pre (to-seat-in (h1 .settings) u-24 (h1 .state) u-28 (p-4 .message) ((parts-Received p-4 w-3 is-7) .pu0) h6 u6 p-36 w-35 p-41 w-40 p-46 w-45 p-51 w-50 p-56 w-55))) (goes-seat-in (h1 .settings) u-24 g-25 (h1 .state) u-28 g-29 (p-4 .message) ((parts-Received p-4 w-3 is-7) .pu0) ((parts-Received p-4 w-3 is-7) .pg0) h6 u6 g6 p-36 w-35 is-38 p-41 w-40 is-43 p-46 w-45 is-48 p-51 w-50 is-53 p-56 w-55 is-58) $
-          calls-at ! fm (C-seat-in 𝓤 H A at-mem run) known-seat-in (to-seat-in (h1 .settings) u-24 (h1 .state) u-28 (p-4 .message) ((parts-Received p-4 w-3 is-7) .pu0) h6 u6 p-36 w-35 p-41 w-40 p-46 w-45 p-51 w-50 p-56 w-55) (and-then ! (load ! (from ! (stop !)) (look ! 120 refl)) (and-then ! (load ! (from ! (stop !)) (look ! 118 refl)) (and-then ! (load ! (from ! (stop !)) (look ! 122 refl)) (and-then ! (load ! (from ! (stop !)) (look ! 132 refl)) (and-then ! (load ! (from ! (stop !)) (look ! 112 refl)) (and-then ! (load ! (from ! (stop !)) (look ! 110 refl)) (and-then ! (load ! (from ! (stop !)) (look ! 108 refl)) (and-then ! (load ! (from ! (stop !)) (look ! 106 refl)) (and-then ! (load ! (from ! (stop !)) (look ! 104 refl)) (no-more !)))))))))) (λ w-59.
+          calls-at ! fm (C-seat-in 𝓤 H A at-mem run) known-seat-in (to-seat-in (h1 .settings) u-24 (h1 .state) u-28 (p-4 .message) ((parts-Received p-4 w-3 is-7) .pu0) h6 u6 p-36 w-35 p-41 w-40 p-46 w-45 p-51 w-50 p-56 w-55) (and-then ! (load ! (from ! (stop !)) (look ! 128 refl)) (and-then ! (load ! (from ! (stop !)) (look ! 126 refl)) (and-then ! (load ! (from ! (stop !)) (look ! 130 refl)) (and-then ! (load ! (from ! (stop !)) (look ! 140 refl)) (and-then ! (load ! (from ! (stop !)) (look ! 120 refl)) (and-then ! (load ! (from ! (stop !)) (look ! 118 refl)) (and-then ! (load ! (from ! (stop !)) (look ! 116 refl)) (and-then ! (load ! (from ! (stop !)) (look ! 114 refl)) (and-then ! (load ! (from ! (stop !)) (look ! 112 refl)) (no-more !)))))))))) (λ w-59.
           use1 W (later (some (λ (p-60 : SSeat.Seat). (‵ ftrue ⊛ ‵ (R-Seat .own p-60 (w-59 ∷ []))) ⊛ raw (ensured 𝓤 H A f-seat-in.ended (f-seat-in.clauses 𝓤 H A at-mem run) tt ((h1 .settings), ((h1 .state), ((p-4 .message), (h6, (p-36, (p-41, (p-46, (p-51, (p-56, tt))))))))) tt p-60)))) (id⊢ 𝓤 _) $ await ! tt $
           pick ! (λ p-60.
           split ! $
@@ -2349,19 +2349,19 @@ module _ {M : Type 1} (𝓤 : URA M) (H : Heap 𝓤) (A : Atoms 𝓤) (W : Given
           drop ! $
           peeks ! R-Seat (Is R-Seat) (shows 𝓤 H A R-Seat) p-60 (w-59 ∷ []) (λ is-62.
           drop ! $
-          land ! (from ! (stop !)) (init ! 101 refl (lawful-Seat 𝓤 H A W .typed p-60 _ is-62 .0)) $
+          land ! (from ! (stop !)) (init ! 109 refl (lawful-Seat 𝓤 H A W .typed p-60 _ is-62 .0)) $
           from-15-18 qq ee zs-8 len-9 p-4 w-3 e-6 is-7 left1 good u-24 g-25 u-28 g-29 held2 p-31 w-30 e-32 is-33 g-34 p-36 w-35 e-37 is-38 g-39 p-41 w-40 e-42 is-43 g-44 p-46 w-45 e-47 is-48 g-49 p-51 w-50 e-52 is-53 g-54 p-56 w-55 e-57 is-58 p-60 w-59 e-61 is-62))))
 
-      from-15-14 : (qq : Kit-Post 𝓤 H) (ee : post 𝓤 H qq returnsᴼ ≡ atReturn 𝓤 H En Post returnsᴼ) (zs-8 : List ℕ) (len-9 : length zs-8 ≡ length h5) (p-4 : SReceived.Received) (w-3 : Val) (e-6 : (p-4 ≡ receivedBy (readOf h5)) × (zs-8 ≡ h5)) (is-7 : Is R-Received p-4 (w-3 ∷ [])) (left1 : Holds (not (p-4 .barred))) (good : Holds (not (not (eqb (length h3) 5)))) (u-24 : Val) (g-25 : Is R-SettingsWords (h1 .settings) (u-24 ∷ [])) (u-28 : Val) (g-29 : Is R-StateWords (h1 .state) (u-28 ∷ [])) (held2 : Holds (p-4 .announces)) (p-31 : ℕ) (w-30 : Val) (e-32 : p-31 ≡ intervalOf ((h1 .settings) .announce)) (is-33 : Is R-u32 p-31 (w-30 ∷ [])) (g-34 : Is R-MasterWords (el 0) (v-MasterWords (el 0))) (p-36 : SLooked.Looked) (w-35 : Val) (e-37 : p-36 ≡ lookedOf (p-4 .message) h6 p-31 (recordIn (el 0))) (is-38 : Is R-Looked p-36 (w-35 ∷ [])) (g-39 : Is R-MasterWords (el 1) (v-MasterWords (el 1))) (p-41 : SLooked.Looked) (w-40 : Val) (e-42 : p-41 ≡ lookedOf (p-4 .message) h6 p-31 (recordIn (el 1))) (is-43 : Is R-Looked p-41 (w-40 ∷ [])) (g-44 : Is R-MasterWords (el 2) (v-MasterWords (el 2))) (p-46 : SLooked.Looked) (w-45 : Val) (e-47 : p-46 ≡ lookedOf (p-4 .message) h6 p-31 (recordIn (el 2))) (is-48 : Is R-Looked p-46 (w-45 ∷ [])) (g-49 : Is R-MasterWords (el 3) (v-MasterWords (el 3))) (p-51 : SLooked.Looked) (w-50 : Val) (e-52 : p-51 ≡ lookedOf (p-4 .message) h6 p-31 (recordIn (el 3))) (is-53 : Is R-Looked p-51 (w-50 ∷ [])) → Sq W (‵ (fobs γ3 (codedHoleys R-MasterWords .code (heres R-MasterWords h3))) ∷ ‵ (fbor κ3 (Held R-MasterWords (length h3) b3 o3 γ3)) ∷ ‵ (flft κ3 q3) ∷ ‵ (fobs γ1 (R-UnitWords .coded .code h1)) ∷ ‵ (fbor κ1 (Body (mem R-UnitWords) b1 o1 γ1)) ∷ ‵ (flft κ1 q1) ∷ ‵ (MutSlice (named 4) κ5 R-u8 .own (x5 zs-8) ((sliceVal (b5, o5) (length h5)) ∷ [])) ∷ ‵ (flft κ5 q5) ∷ ‵ (flft κ8 q8) ∷ ‵ (flft κ4 q4) ∷ ‵ (flft κ2 q2) ∷ ‵ (ftrue) ∷ ‵ (fobs γ8 (R-AnswerWords .coded .code h8)) ∷ ‵ (fbor κ8 (Body (mem R-AnswerWords) b8 o8 γ8)) ∷ ‵ (R-Stamp .own h7 (u7 ∷ [])) ∷ ‵ (R-u64 .own h6 (u6 ∷ [])) ∷ ‵ (fobs γ4 (R-Watch .coded .code h4)) ∷ ‵ (fbor κ4 (Body (mem R-Watch) b4 o4 γ4)) ∷ ‵ (at-slice R-MasterWords (x3 h3) ((sliceVal (b3, o3) (length h3)) ∷ [])) ∷ ‵ (fobs γ2 (R-Servo .coded .code h2)) ∷ ‵ (fbor κ2 (Body (mem R-Servo) b2 o2 γ2)) ∷ ‵ (froom (tyRef erased mut (pointee (R-u8x128 .written))) l61 0) ∷ ‵ (fdies (tyRef erased mut (pointee (R-u8x128 .written))) l61) ∷ ‵ (froom (tyRef erased mut (pointee (R-i32x128 .written))) l60 0) ∷ ‵ (fdies (tyRef erased mut (pointee (R-i32x128 .written))) l60) ∷ ‵ (froom (tyRef erased mut (pointee (R-i64x128 .written))) l59 0) ∷ ‵ (fdies (tyRef erased mut (pointee (R-i64x128 .written))) l59) ∷ ‵ (froom MHead′.mir l58 0) ∷ ‵ (fdies MHead′.mir l58) ∷ ‵ (froom MAnswerWords′.mir l57 0) ∷ ‵ (fdies MAnswerWords′.mir l57) ∷ ‵ (froom MAnswerWords′.mir l56 0) ∷ ‵ (fdies MAnswerWords′.mir l56) ∷ ‵ (froom (tyRef erased mut (pointee (R-u8x128 .written))) l55 0) ∷ ‵ (fdies (tyRef erased mut (pointee (R-u8x128 .written))) l55) ∷ ‵ (froom (tyRef erased mut (pointee (R-i32x128 .written))) l54 0) ∷ ‵ (fdies (tyRef erased mut (pointee (R-i32x128 .written))) l54) ∷ ‵ (froom (tyRef erased mut (pointee (R-i64x128 .written))) l53 0) ∷ ‵ (fdies (tyRef erased mut (pointee (R-i64x128 .written))) l53) ∷ ‵ (froom MHead′.mir l52 0) ∷ ‵ (fdies MHead′.mir l52) ∷ ‵ (froom tyPtr l51 0) ∷ ‵ (fdies tyPtr l51) ∷ ‵ (froom tyPtr l50 0) ∷ ‵ (fdies tyPtr l50) ∷ ‵ (froom (tyInt w64) l49 0) ∷ ‵ (fdies (tyInt w64) l49) ∷ ‵ (froom MAnswerWords′.mir l48 0) ∷ ‵ (fdies MAnswerWords′.mir l48) ∷ ‵ (froom tyBool l47 0) ∷ ‵ (fdies tyBool l47) ∷ ‵ (froom tyPtr l46 0) ∷ ‵ (fdies tyPtr l46) ∷ ‵ (froom tyPtr l45 0) ∷ ‵ (fdies tyPtr l45) ∷ ‵ (froom tyPtr l44 0) ∷ ‵ (fdies tyPtr l44) ∷ ‵ (froom tyPtr l43 0) ∷ ‵ (fdies tyPtr l43) ∷ ‵ (froom MMasterWords′.mir l42 0) ∷ ‵ (fdies MMasterWords′.mir l42) ∷ ‵ (froom tyPtr l41 0) ∷ ‵ (fdies tyPtr l41) ∷ ‵ (froom MAnswerWords′.mir l40 0) ∷ ‵ (fdies MAnswerWords′.mir l40) ∷ ‵ (froom (tyInt w64) l39 0) ∷ ‵ (fdies (tyInt w64) l39) ∷ ‵ (froom MAnswerWords′.mir l38 0) ∷ ‵ (fdies MAnswerWords′.mir l38) ∷ ‵ (froom tyBool l37 0) ∷ ‵ (fdies tyBool l37) ∷ ‵ (froom (sliceTy (tyRef erased mut (tyInt w8))) l36 0) ∷ ‵ (fdies (sliceTy (tyRef erased mut (tyInt w8))) l36) ∷ ‵ (froom (tyRef erased mut (tyInt w8)) l35 0) ∷ ‵ (fdies (tyRef erased mut (tyInt w8)) l35) ∷ ‵ (froom tyBool l34 0) ∷ ‵ (fdies tyBool l34) ∷ ‵ (froom MServo′.mir l33 0) ∷ ‵ (fdies MServo′.mir l33) ∷ ‵ (froom MServo′.mir l32 0) ∷ ‵ (fdies MServo′.mir l32) ∷ ‵ (froom tyBool l31 0) ∷ ‵ (fdies tyBool l31) ∷ ‵ (froom MTold′.mir l30 0) ∷ ‵ (fdies MTold′.mir l30) ∷ ‵ (froom MDelaysWords′.mir l29 0) ∷ ‵ (fdies MDelaysWords′.mir l29) ∷ ‵ (froom MHalvesWords′.mir l28 0) ∷ ‵ (fdies MHalvesWords′.mir l28) ∷ ‵ (froom MEmptied′.mir l27 0) ∷ ‵ (fdies MEmptied′.mir l27) ∷ ‵ (froom tyBool l26 0) ∷ ‵ (fdies tyBool l26) ∷ ‵ (froom MHeld′.mir l25 0) ∷ ‵ (fdies MHeld′.mir l25) ∷ ‵ (froom MMasterWords′.mir l24 0) ∷ ‵ (fdies MMasterWords′.mir l24) ∷ ‵ (froom (tyInt w64) l23 0) ∷ ‵ (fdies (tyInt w64) l23) ∷ ‵ (froom tyBool l22 0) ∷ ‵ (fdies tyBool l22) ∷ ‵ (froom MSeat′.mir l21 0) ∷ ‵ (fdies MSeat′.mir l21) ∷ ‵ (froom MLooked′.mir l20 0) ∷ ‵ (fdies MLooked′.mir l20) ∷ ‵ (fat fullShare MLooked′.mir l19 0 w-50) ∷ ‵ (fdies MLooked′.mir l19) ∷ ‵ (fat fullShare MLooked′.mir l18 0 w-45) ∷ ‵ (fdies MLooked′.mir l18) ∷ ‵ (fat fullShare MLooked′.mir l17 0 w-40) ∷ ‵ (fdies MLooked′.mir l17) ∷ ‵ (fat fullShare MLooked′.mir l16 0 w-35) ∷ ‵ (fdies MLooked′.mir l16) ∷ ‵ (fat fullShare (tyInt w32) l15 0 w-30) ∷ ‵ (fdies (tyInt w32) l15) ∷ ‵ (froom tyBool l14 0) ∷ ‵ (fdies tyBool l14) ∷ ‵ (fat fullShare MStateWords′.mir l13 0 u-28) ∷ ‵ (fdies MStateWords′.mir l13) ∷ ‵ (fat fullShare MSettingsWords′.mir l12 0 u-24) ∷ ‵ (fdies MSettingsWords′.mir l12) ∷ ‵ (fat fullShare MMessage′.mir l11 0 ((parts-Received p-4 w-3 is-7) .pu0)) ∷ ‵ (fdies MMessage′.mir l11) ∷ ‵ (froom tyBool l10 0) ∷ ‵ (fdies tyBool l10) ∷ ‵ (froom MReceived′.mir l9 0) ∷ ‵ (fdies MReceived′.mir l9) ∷ ‵ (fat fullShare (tyRef (named 5) mut (pointee (R-AnswerWords .written))) l8 0 (vptr b8 o8)) ∷ ‵ (fdies (tyRef (named 5) mut (pointee (R-AnswerWords .written))) l8) ∷ ‵ (froom MStamp′.mir l7 0) ∷ ‵ (fdies MStamp′.mir l7) ∷ ‵ (fat fullShare (tyInt w64) l6 0 u6) ∷ ‵ (fdies (tyInt w64) l6) ∷ ‵ (froom (sliceTy (tyRef (named 4) mut (tyInt w8))) l5 0) ∷ ‵ (fdies (sliceTy (tyRef (named 4) mut (tyInt w8))) l5) ∷ ‵ (fat fullShare (tyRef (named 3) mut (pointee (R-Watch .written))) l4 0 (vptr b4 o4)) ∷ ‵ (fdies (tyRef (named 3) mut (pointee (R-Watch .written))) l4) ∷ ‵ (fat fullShare (sliceTy (tyRef (named 2) mut (pointee (R-MasterWords .written)))) l3 0 (sliceVal (b3, o3) (length h3))) ∷ ‵ (fdies (sliceTy (tyRef (named 2) mut (pointee (R-MasterWords .written)))) l3) ∷ ‵ (fat fullShare (tyRef (named 1) mut (pointee (R-Servo .written))) l2 0 (vptr b2 o2)) ∷ ‵ (fdies (tyRef (named 1) mut (pointee (R-Servo .written))) l2) ∷ ‵ (fat fullShare (tyRef (named 0) mut (pointee (R-UnitWords .written))) l1 0 (vptr b1 o1)) ∷ ‵ (fdies (tyRef (named 0) mut (pointee (R-UnitWords .written))) l1) ∷ ‵ (froom tyUnit l0 0) ∷ ‵ (fdies tyUnit l0) ∷ []) (runs C Λ En i-15-14 qq)
+      from-15-14 : (qq : Kit-Post 𝓤 H) (ee : post 𝓤 H qq returnsᴼ ≡ atReturn 𝓤 H En Post returnsᴼ) (zs-8 : List ℕ) (len-9 : length zs-8 ≡ length h5) (p-4 : SReceived.Received) (w-3 : Val) (e-6 : (p-4 ≡ receivedBy (readOf h5)) × (zs-8 ≡ h5)) (is-7 : Is R-Received p-4 (w-3 ∷ [])) (left1 : Holds (not (p-4 .barred))) (good : Holds (not (not (eqb (length h3) 5)))) (u-24 : Val) (g-25 : Is R-SettingsWords (h1 .settings) (u-24 ∷ [])) (u-28 : Val) (g-29 : Is R-StateWords (h1 .state) (u-28 ∷ [])) (held2 : Holds (p-4 .announces)) (p-31 : ℕ) (w-30 : Val) (e-32 : p-31 ≡ intervalOf ((h1 .settings) .announce)) (is-33 : Is R-u32 p-31 (w-30 ∷ [])) (g-34 : Is R-MasterWords (el 0) (v-MasterWords (el 0))) (p-36 : SLooked.Looked) (w-35 : Val) (e-37 : p-36 ≡ lookedOf (p-4 .message) h6 p-31 (recordIn (el 0))) (is-38 : Is R-Looked p-36 (w-35 ∷ [])) (g-39 : Is R-MasterWords (el 1) (v-MasterWords (el 1))) (p-41 : SLooked.Looked) (w-40 : Val) (e-42 : p-41 ≡ lookedOf (p-4 .message) h6 p-31 (recordIn (el 1))) (is-43 : Is R-Looked p-41 (w-40 ∷ [])) (g-44 : Is R-MasterWords (el 2) (v-MasterWords (el 2))) (p-46 : SLooked.Looked) (w-45 : Val) (e-47 : p-46 ≡ lookedOf (p-4 .message) h6 p-31 (recordIn (el 2))) (is-48 : Is R-Looked p-46 (w-45 ∷ [])) (g-49 : Is R-MasterWords (el 3) (v-MasterWords (el 3))) (p-51 : SLooked.Looked) (w-50 : Val) (e-52 : p-51 ≡ lookedOf (p-4 .message) h6 p-31 (recordIn (el 3))) (is-53 : Is R-Looked p-51 (w-50 ∷ [])) → Sq W (‵ (fobs γ3 (codedHoleys R-MasterWords .code (heres R-MasterWords h3))) ∷ ‵ (fbor κ3 (Held R-MasterWords (length h3) b3 o3 γ3)) ∷ ‵ (flft κ3 q3) ∷ ‵ (fobs γ1 (R-UnitWords .coded .code h1)) ∷ ‵ (fbor κ1 (Body (mem R-UnitWords) b1 o1 γ1)) ∷ ‵ (flft κ1 q1) ∷ ‵ (MutSlice (named 4) κ5 R-u8 .own (x5 zs-8) ((sliceVal (b5, o5) (length h5)) ∷ [])) ∷ ‵ (flft κ5 q5) ∷ ‵ (flft κ8 q8) ∷ ‵ (flft κ4 q4) ∷ ‵ (flft κ2 q2) ∷ ‵ (ftrue) ∷ ‵ (fobs γ8 (R-AnswerWords .coded .code h8)) ∷ ‵ (fbor κ8 (Body (mem R-AnswerWords) b8 o8 γ8)) ∷ ‵ (R-Stamp .own h7 (u7 ∷ [])) ∷ ‵ (R-u64 .own h6 (u6 ∷ [])) ∷ ‵ (fobs γ4 (R-Watch .coded .code h4)) ∷ ‵ (fbor κ4 (Body (mem R-Watch) b4 o4 γ4)) ∷ ‵ (at-slice R-MasterWords (x3 h3) ((sliceVal (b3, o3) (length h3)) ∷ [])) ∷ ‵ (fobs γ2 (R-Servo .coded .code h2)) ∷ ‵ (fbor κ2 (Body (mem R-Servo) b2 o2 γ2)) ∷ ‵ (froom (tyRef erased mut (pointee (R-u8x128 .written))) l65 0) ∷ ‵ (fdies (tyRef erased mut (pointee (R-u8x128 .written))) l65) ∷ ‵ (froom (tyRef erased mut (pointee (R-i32x128 .written))) l64 0) ∷ ‵ (fdies (tyRef erased mut (pointee (R-i32x128 .written))) l64) ∷ ‵ (froom (tyRef erased mut (pointee (R-i64x128 .written))) l63 0) ∷ ‵ (fdies (tyRef erased mut (pointee (R-i64x128 .written))) l63) ∷ ‵ (froom MHead′.mir l62 0) ∷ ‵ (fdies MHead′.mir l62) ∷ ‵ (froom MAnswerWords′.mir l61 0) ∷ ‵ (fdies MAnswerWords′.mir l61) ∷ ‵ (froom MAnswerWords′.mir l60 0) ∷ ‵ (fdies MAnswerWords′.mir l60) ∷ ‵ (froom (tyRef erased mut (pointee (R-u8x128 .written))) l59 0) ∷ ‵ (fdies (tyRef erased mut (pointee (R-u8x128 .written))) l59) ∷ ‵ (froom (tyRef erased mut (pointee (R-i32x128 .written))) l58 0) ∷ ‵ (fdies (tyRef erased mut (pointee (R-i32x128 .written))) l58) ∷ ‵ (froom (tyRef erased mut (pointee (R-i64x128 .written))) l57 0) ∷ ‵ (fdies (tyRef erased mut (pointee (R-i64x128 .written))) l57) ∷ ‵ (froom MHead′.mir l56 0) ∷ ‵ (fdies MHead′.mir l56) ∷ ‵ (froom tyPtr l55 0) ∷ ‵ (fdies tyPtr l55) ∷ ‵ (froom tyPtr l54 0) ∷ ‵ (fdies tyPtr l54) ∷ ‵ (froom (tyInt w64) l53 0) ∷ ‵ (fdies (tyInt w64) l53) ∷ ‵ (froom MAnswerWords′.mir l52 0) ∷ ‵ (fdies MAnswerWords′.mir l52) ∷ ‵ (froom tyBool l51 0) ∷ ‵ (fdies tyBool l51) ∷ ‵ (froom tyPtr l50 0) ∷ ‵ (fdies tyPtr l50) ∷ ‵ (froom tyPtr l49 0) ∷ ‵ (fdies tyPtr l49) ∷ ‵ (froom tyPtr l48 0) ∷ ‵ (fdies tyPtr l48) ∷ ‵ (froom tyPtr l47 0) ∷ ‵ (fdies tyPtr l47) ∷ ‵ (froom MMasterWords′.mir l46 0) ∷ ‵ (fdies MMasterWords′.mir l46) ∷ ‵ (froom tyPtr l45 0) ∷ ‵ (fdies tyPtr l45) ∷ ‵ (froom MAnswerWords′.mir l44 0) ∷ ‵ (fdies MAnswerWords′.mir l44) ∷ ‵ (froom (tyInt w64) l43 0) ∷ ‵ (fdies (tyInt w64) l43) ∷ ‵ (froom MAnswerWords′.mir l42 0) ∷ ‵ (fdies MAnswerWords′.mir l42) ∷ ‵ (froom tyBool l41 0) ∷ ‵ (fdies tyBool l41) ∷ ‵ (froom (sliceTy (tyRef erased mut (tyInt w8))) l40 0) ∷ ‵ (fdies (sliceTy (tyRef erased mut (tyInt w8))) l40) ∷ ‵ (froom (tyRef erased mut (tyInt w8)) l39 0) ∷ ‵ (fdies (tyRef erased mut (tyInt w8)) l39) ∷ ‵ (froom (tyInt w16) l38 0) ∷ ‵ (fdies (tyInt w16) l38) ∷ ‵ (froom (tyInt w8) l37 0) ∷ ‵ (fdies (tyInt w8) l37) ∷ ‵ (froom MServo′.mir l36 0) ∷ ‵ (fdies MServo′.mir l36) ∷ ‵ (froom tyBool l35 0) ∷ ‵ (fdies tyBool l35) ∷ ‵ (froom tyBool l34 0) ∷ ‵ (fdies tyBool l34) ∷ ‵ (froom MAccepted′.mir l33 0) ∷ ‵ (fdies MAccepted′.mir l33) ∷ ‵ (froom MServo′.mir l32 0) ∷ ‵ (fdies MServo′.mir l32) ∷ ‵ (froom tyBool l31 0) ∷ ‵ (fdies tyBool l31) ∷ ‵ (froom MTold′.mir l30 0) ∷ ‵ (fdies MTold′.mir l30) ∷ ‵ (froom MDelaysWords′.mir l29 0) ∷ ‵ (fdies MDelaysWords′.mir l29) ∷ ‵ (froom MHalvesWords′.mir l28 0) ∷ ‵ (fdies MHalvesWords′.mir l28) ∷ ‵ (froom MEmptied′.mir l27 0) ∷ ‵ (fdies MEmptied′.mir l27) ∷ ‵ (froom tyBool l26 0) ∷ ‵ (fdies tyBool l26) ∷ ‵ (froom MHeld′.mir l25 0) ∷ ‵ (fdies MHeld′.mir l25) ∷ ‵ (froom MMasterWords′.mir l24 0) ∷ ‵ (fdies MMasterWords′.mir l24) ∷ ‵ (froom (tyInt w64) l23 0) ∷ ‵ (fdies (tyInt w64) l23) ∷ ‵ (froom tyBool l22 0) ∷ ‵ (fdies tyBool l22) ∷ ‵ (froom MSeat′.mir l21 0) ∷ ‵ (fdies MSeat′.mir l21) ∷ ‵ (froom MLooked′.mir l20 0) ∷ ‵ (fdies MLooked′.mir l20) ∷ ‵ (fat fullShare MLooked′.mir l19 0 w-50) ∷ ‵ (fdies MLooked′.mir l19) ∷ ‵ (fat fullShare MLooked′.mir l18 0 w-45) ∷ ‵ (fdies MLooked′.mir l18) ∷ ‵ (fat fullShare MLooked′.mir l17 0 w-40) ∷ ‵ (fdies MLooked′.mir l17) ∷ ‵ (fat fullShare MLooked′.mir l16 0 w-35) ∷ ‵ (fdies MLooked′.mir l16) ∷ ‵ (fat fullShare (tyInt w32) l15 0 w-30) ∷ ‵ (fdies (tyInt w32) l15) ∷ ‵ (froom tyBool l14 0) ∷ ‵ (fdies tyBool l14) ∷ ‵ (fat fullShare MStateWords′.mir l13 0 u-28) ∷ ‵ (fdies MStateWords′.mir l13) ∷ ‵ (fat fullShare MSettingsWords′.mir l12 0 u-24) ∷ ‵ (fdies MSettingsWords′.mir l12) ∷ ‵ (fat fullShare MMessage′.mir l11 0 ((parts-Received p-4 w-3 is-7) .pu0)) ∷ ‵ (fdies MMessage′.mir l11) ∷ ‵ (froom tyBool l10 0) ∷ ‵ (fdies tyBool l10) ∷ ‵ (froom MReceived′.mir l9 0) ∷ ‵ (fdies MReceived′.mir l9) ∷ ‵ (fat fullShare (tyRef (named 5) mut (pointee (R-AnswerWords .written))) l8 0 (vptr b8 o8)) ∷ ‵ (fdies (tyRef (named 5) mut (pointee (R-AnswerWords .written))) l8) ∷ ‵ (froom MStamp′.mir l7 0) ∷ ‵ (fdies MStamp′.mir l7) ∷ ‵ (fat fullShare (tyInt w64) l6 0 u6) ∷ ‵ (fdies (tyInt w64) l6) ∷ ‵ (froom (sliceTy (tyRef (named 4) mut (tyInt w8))) l5 0) ∷ ‵ (fdies (sliceTy (tyRef (named 4) mut (tyInt w8))) l5) ∷ ‵ (fat fullShare (tyRef (named 3) mut (pointee (R-Watch .written))) l4 0 (vptr b4 o4)) ∷ ‵ (fdies (tyRef (named 3) mut (pointee (R-Watch .written))) l4) ∷ ‵ (fat fullShare (sliceTy (tyRef (named 2) mut (pointee (R-MasterWords .written)))) l3 0 (sliceVal (b3, o3) (length h3))) ∷ ‵ (fdies (sliceTy (tyRef (named 2) mut (pointee (R-MasterWords .written)))) l3) ∷ ‵ (fat fullShare (tyRef (named 1) mut (pointee (R-Servo .written))) l2 0 (vptr b2 o2)) ∷ ‵ (fdies (tyRef (named 1) mut (pointee (R-Servo .written))) l2) ∷ ‵ (fat fullShare (tyRef (named 0) mut (pointee (R-UnitWords .written))) l1 0 (vptr b1 o1)) ∷ ‵ (fdies (tyRef (named 0) mut (pointee (R-UnitWords .written))) l1) ∷ ‵ (froom tyUnit l0 0) ∷ ‵ (fdies tyUnit l0) ∷ []) (runs C Λ En i-15-14 qq)
       from-15-14 qq ee zs-8 len-9 p-4 w-3 e-6 is-7 left1 good u-24 g-25 u-28 g-29 held2 p-31 w-30 e-32 is-33 g-34 p-36 w-35 e-37 is-38 g-39 p-41 w-40 e-42 is-43 g-44 p-46 w-45 e-47 is-48 g-49 p-51 w-50 e-52 is-53 =
           opens-slice ! tt R-MasterWords h3 b3 o3 $
-          assigns ! (bin ! (load ! (from ! (fld ! refl (stop !))) (look-in ! 138 (sub ! 0 refl (whole !)))) (lit ! tt) tt) (from ! (stop !)) (init ! 52 refl (tt, tt)) $
-          rewrite ! 52 (λ (p : ℕ). ‵ (fat fullShare tyPtr l46 0 (vptr b3 p))) (sym (place-is 96 o3 4)) refl $
+          assigns ! (bin ! (load ! (from ! (fld ! refl (stop !))) (look-in ! 146 (sub ! 0 refl (whole !)))) (lit ! tt) tt) (from ! (stop !)) (init ! 52 refl (tt, tt)) $
+          rewrite ! 52 (λ (p : ℕ). ‵ (fat fullShare tyPtr l50 0 (vptr b3 p))) (sym (place-is 96 o3 4)) refl $
           elem-out ! R-MasterWords (Is R-MasterWords) (shows 𝓤 H A R-MasterWords) v-MasterWords tells-MasterWords fullShare h3 4 noMaster b3 o3 (within 4 (length h3) (lit< tt) good) (λ g-54.
           assigns ! (of-opd ! (load ! (from ! (hop ! (look ! 54 refl) (stop !))) (look-raw ! 0 refl))) (from ! (stop !)) (init ! 62 refl (lawful-MasterWords 𝓤 H A W .typed (el 4) _ g-54 .0)) $
           elem-back ! R-MasterWords fullShare h3 4 noMaster (v-MasterWords (el 4)) b3 o3 (within 4 (length h3) (lit< tt) good) $
           use0 W (raw (C-look 𝓤 H A at-mem run .pre (to-look (el 4) (only (v-MasterWords (el 4))) (p-4 .message) ((parts-Received p-4 w-3 is-7) .pu0) h6 u6 p-31 w-30))) (goes-look (el 4) (only (v-MasterWords (el 4))) g-54 (p-4 .message) ((parts-Received p-4 w-3 is-7) .pu0) ((parts-Received p-4 w-3 is-7) .pg0) h6 u6 g6 p-31 w-30 is-33) $
-          calls-at ! fm (C-look 𝓤 H A at-mem run) known-look (to-look (el 4) (only (v-MasterWords (el 4))) (p-4 .message) ((parts-Received p-4 w-3 is-7) .pu0) h6 u6 p-31 w-30) (and-then ! (load ! (from ! (stop !)) (look ! 61 refl)) (and-then ! (load ! (from ! (stop !)) (look ! 123 refl)) (and-then ! (load ! (from ! (stop !)) (look ! 133 refl)) (and-then ! (load ! (from ! (stop !)) (look ! 115 refl)) (no-more !))))) (λ w-55.
+          calls-at ! fm (C-look 𝓤 H A at-mem run) known-look (to-look (el 4) (only (v-MasterWords (el 4))) (p-4 .message) ((parts-Received p-4 w-3 is-7) .pu0) h6 u6 p-31 w-30) (and-then ! (load ! (from ! (stop !)) (look ! 61 refl)) (and-then ! (load ! (from ! (stop !)) (look ! 131 refl)) (and-then ! (load ! (from ! (stop !)) (look ! 141 refl)) (and-then ! (load ! (from ! (stop !)) (look ! 123 refl)) (no-more !))))) (λ w-55.
           use1 W (later (some (λ (p-56 : SLooked.Looked). (‵ ftrue ⊛ ‵ (R-Looked .own p-56 (w-55 ∷ []))) ⊛ raw (ensured 𝓤 H A f-look.ended (f-look.clauses 𝓤 H A at-mem run) tt ((el 4), ((p-4 .message), (h6, (p-31, tt)))) tt p-56)))) (id⊢ 𝓤 _) $ await ! tt $
           pick ! (λ p-56.
           split ! $
@@ -2372,21 +2372,21 @@ module _ {M : Type 1} (𝓤 : URA M) (H : Heap 𝓤) (A : Atoms 𝓤) (W : Given
           drop ! $
           peeks ! R-Looked (Is R-Looked) (shows 𝓤 H A R-Looked) p-56 (w-55 ∷ []) (λ is-58.
           drop ! $
-          land ! (from ! (stop !)) (init ! 104 refl (lawful-Looked 𝓤 H A W .typed p-56 _ is-58 .0)) $
+          land ! (from ! (stop !)) (init ! 112 refl (lawful-Looked 𝓤 H A W .typed p-56 _ is-58 .0)) $
           closes-slice ! tt R-MasterWords h3 h3 refl b3 o3 $
           forget ! 51 refl $ forget ! 59 refl $
           from-15-17 qq ee zs-8 len-9 p-4 w-3 e-6 is-7 left1 good u-24 g-25 u-28 g-29 held2 p-31 w-30 e-32 is-33 g-34 p-36 w-35 e-37 is-38 g-39 p-41 w-40 e-42 is-43 g-44 p-46 w-45 e-47 is-48 g-49 p-51 w-50 e-52 is-53 g-54 p-56 w-55 e-57 is-58)))))
 
-      from-15-11 : (qq : Kit-Post 𝓤 H) (ee : post 𝓤 H qq returnsᴼ ≡ atReturn 𝓤 H En Post returnsᴼ) (zs-8 : List ℕ) (len-9 : length zs-8 ≡ length h5) (p-4 : SReceived.Received) (w-3 : Val) (e-6 : (p-4 ≡ receivedBy (readOf h5)) × (zs-8 ≡ h5)) (is-7 : Is R-Received p-4 (w-3 ∷ [])) (left1 : Holds (not (p-4 .barred))) (good : Holds (not (not (eqb (length h3) 5)))) (u-24 : Val) (g-25 : Is R-SettingsWords (h1 .settings) (u-24 ∷ [])) (u-28 : Val) (g-29 : Is R-StateWords (h1 .state) (u-28 ∷ [])) (held2 : Holds (p-4 .announces)) (p-31 : ℕ) (w-30 : Val) (e-32 : p-31 ≡ intervalOf ((h1 .settings) .announce)) (is-33 : Is R-u32 p-31 (w-30 ∷ [])) (g-34 : Is R-MasterWords (el 0) (v-MasterWords (el 0))) (p-36 : SLooked.Looked) (w-35 : Val) (e-37 : p-36 ≡ lookedOf (p-4 .message) h6 p-31 (recordIn (el 0))) (is-38 : Is R-Looked p-36 (w-35 ∷ [])) (g-39 : Is R-MasterWords (el 1) (v-MasterWords (el 1))) (p-41 : SLooked.Looked) (w-40 : Val) (e-42 : p-41 ≡ lookedOf (p-4 .message) h6 p-31 (recordIn (el 1))) (is-43 : Is R-Looked p-41 (w-40 ∷ [])) (g-44 : Is R-MasterWords (el 2) (v-MasterWords (el 2))) (p-46 : SLooked.Looked) (w-45 : Val) (e-47 : p-46 ≡ lookedOf (p-4 .message) h6 p-31 (recordIn (el 2))) (is-48 : Is R-Looked p-46 (w-45 ∷ [])) → Sq W (‵ (fobs γ3 (codedHoleys R-MasterWords .code (heres R-MasterWords h3))) ∷ ‵ (fbor κ3 (Held R-MasterWords (length h3) b3 o3 γ3)) ∷ ‵ (flft κ3 q3) ∷ ‵ (fobs γ1 (R-UnitWords .coded .code h1)) ∷ ‵ (fbor κ1 (Body (mem R-UnitWords) b1 o1 γ1)) ∷ ‵ (flft κ1 q1) ∷ ‵ (MutSlice (named 4) κ5 R-u8 .own (x5 zs-8) ((sliceVal (b5, o5) (length h5)) ∷ [])) ∷ ‵ (flft κ5 q5) ∷ ‵ (flft κ8 q8) ∷ ‵ (flft κ4 q4) ∷ ‵ (flft κ2 q2) ∷ ‵ (ftrue) ∷ ‵ (fobs γ8 (R-AnswerWords .coded .code h8)) ∷ ‵ (fbor κ8 (Body (mem R-AnswerWords) b8 o8 γ8)) ∷ ‵ (R-Stamp .own h7 (u7 ∷ [])) ∷ ‵ (R-u64 .own h6 (u6 ∷ [])) ∷ ‵ (fobs γ4 (R-Watch .coded .code h4)) ∷ ‵ (fbor κ4 (Body (mem R-Watch) b4 o4 γ4)) ∷ ‵ (at-slice R-MasterWords (x3 h3) ((sliceVal (b3, o3) (length h3)) ∷ [])) ∷ ‵ (fobs γ2 (R-Servo .coded .code h2)) ∷ ‵ (fbor κ2 (Body (mem R-Servo) b2 o2 γ2)) ∷ ‵ (froom (tyRef erased mut (pointee (R-u8x128 .written))) l61 0) ∷ ‵ (fdies (tyRef erased mut (pointee (R-u8x128 .written))) l61) ∷ ‵ (froom (tyRef erased mut (pointee (R-i32x128 .written))) l60 0) ∷ ‵ (fdies (tyRef erased mut (pointee (R-i32x128 .written))) l60) ∷ ‵ (froom (tyRef erased mut (pointee (R-i64x128 .written))) l59 0) ∷ ‵ (fdies (tyRef erased mut (pointee (R-i64x128 .written))) l59) ∷ ‵ (froom MHead′.mir l58 0) ∷ ‵ (fdies MHead′.mir l58) ∷ ‵ (froom MAnswerWords′.mir l57 0) ∷ ‵ (fdies MAnswerWords′.mir l57) ∷ ‵ (froom MAnswerWords′.mir l56 0) ∷ ‵ (fdies MAnswerWords′.mir l56) ∷ ‵ (froom (tyRef erased mut (pointee (R-u8x128 .written))) l55 0) ∷ ‵ (fdies (tyRef erased mut (pointee (R-u8x128 .written))) l55) ∷ ‵ (froom (tyRef erased mut (pointee (R-i32x128 .written))) l54 0) ∷ ‵ (fdies (tyRef erased mut (pointee (R-i32x128 .written))) l54) ∷ ‵ (froom (tyRef erased mut (pointee (R-i64x128 .written))) l53 0) ∷ ‵ (fdies (tyRef erased mut (pointee (R-i64x128 .written))) l53) ∷ ‵ (froom MHead′.mir l52 0) ∷ ‵ (fdies MHead′.mir l52) ∷ ‵ (froom tyPtr l51 0) ∷ ‵ (fdies tyPtr l51) ∷ ‵ (froom tyPtr l50 0) ∷ ‵ (fdies tyPtr l50) ∷ ‵ (froom (tyInt w64) l49 0) ∷ ‵ (fdies (tyInt w64) l49) ∷ ‵ (froom MAnswerWords′.mir l48 0) ∷ ‵ (fdies MAnswerWords′.mir l48) ∷ ‵ (froom tyBool l47 0) ∷ ‵ (fdies tyBool l47) ∷ ‵ (froom tyPtr l46 0) ∷ ‵ (fdies tyPtr l46) ∷ ‵ (froom tyPtr l45 0) ∷ ‵ (fdies tyPtr l45) ∷ ‵ (froom tyPtr l44 0) ∷ ‵ (fdies tyPtr l44) ∷ ‵ (froom tyPtr l43 0) ∷ ‵ (fdies tyPtr l43) ∷ ‵ (froom MMasterWords′.mir l42 0) ∷ ‵ (fdies MMasterWords′.mir l42) ∷ ‵ (froom tyPtr l41 0) ∷ ‵ (fdies tyPtr l41) ∷ ‵ (froom MAnswerWords′.mir l40 0) ∷ ‵ (fdies MAnswerWords′.mir l40) ∷ ‵ (froom (tyInt w64) l39 0) ∷ ‵ (fdies (tyInt w64) l39) ∷ ‵ (froom MAnswerWords′.mir l38 0) ∷ ‵ (fdies MAnswerWords′.mir l38) ∷ ‵ (froom tyBool l37 0) ∷ ‵ (fdies tyBool l37) ∷ ‵ (froom (sliceTy (tyRef erased mut (tyInt w8))) l36 0) ∷ ‵ (fdies (sliceTy (tyRef erased mut (tyInt w8))) l36) ∷ ‵ (froom (tyRef erased mut (tyInt w8)) l35 0) ∷ ‵ (fdies (tyRef erased mut (tyInt w8)) l35) ∷ ‵ (froom tyBool l34 0) ∷ ‵ (fdies tyBool l34) ∷ ‵ (froom MServo′.mir l33 0) ∷ ‵ (fdies MServo′.mir l33) ∷ ‵ (froom MServo′.mir l32 0) ∷ ‵ (fdies MServo′.mir l32) ∷ ‵ (froom tyBool l31 0) ∷ ‵ (fdies tyBool l31) ∷ ‵ (froom MTold′.mir l30 0) ∷ ‵ (fdies MTold′.mir l30) ∷ ‵ (froom MDelaysWords′.mir l29 0) ∷ ‵ (fdies MDelaysWords′.mir l29) ∷ ‵ (froom MHalvesWords′.mir l28 0) ∷ ‵ (fdies MHalvesWords′.mir l28) ∷ ‵ (froom MEmptied′.mir l27 0) ∷ ‵ (fdies MEmptied′.mir l27) ∷ ‵ (froom tyBool l26 0) ∷ ‵ (fdies tyBool l26) ∷ ‵ (froom MHeld′.mir l25 0) ∷ ‵ (fdies MHeld′.mir l25) ∷ ‵ (froom MMasterWords′.mir l24 0) ∷ ‵ (fdies MMasterWords′.mir l24) ∷ ‵ (froom (tyInt w64) l23 0) ∷ ‵ (fdies (tyInt w64) l23) ∷ ‵ (froom tyBool l22 0) ∷ ‵ (fdies tyBool l22) ∷ ‵ (froom MSeat′.mir l21 0) ∷ ‵ (fdies MSeat′.mir l21) ∷ ‵ (froom MLooked′.mir l20 0) ∷ ‵ (fdies MLooked′.mir l20) ∷ ‵ (froom MLooked′.mir l19 0) ∷ ‵ (fdies MLooked′.mir l19) ∷ ‵ (fat fullShare MLooked′.mir l18 0 w-45) ∷ ‵ (fdies MLooked′.mir l18) ∷ ‵ (fat fullShare MLooked′.mir l17 0 w-40) ∷ ‵ (fdies MLooked′.mir l17) ∷ ‵ (fat fullShare MLooked′.mir l16 0 w-35) ∷ ‵ (fdies MLooked′.mir l16) ∷ ‵ (fat fullShare (tyInt w32) l15 0 w-30) ∷ ‵ (fdies (tyInt w32) l15) ∷ ‵ (froom tyBool l14 0) ∷ ‵ (fdies tyBool l14) ∷ ‵ (fat fullShare MStateWords′.mir l13 0 u-28) ∷ ‵ (fdies MStateWords′.mir l13) ∷ ‵ (fat fullShare MSettingsWords′.mir l12 0 u-24) ∷ ‵ (fdies MSettingsWords′.mir l12) ∷ ‵ (fat fullShare MMessage′.mir l11 0 ((parts-Received p-4 w-3 is-7) .pu0)) ∷ ‵ (fdies MMessage′.mir l11) ∷ ‵ (froom tyBool l10 0) ∷ ‵ (fdies tyBool l10) ∷ ‵ (froom MReceived′.mir l9 0) ∷ ‵ (fdies MReceived′.mir l9) ∷ ‵ (fat fullShare (tyRef (named 5) mut (pointee (R-AnswerWords .written))) l8 0 (vptr b8 o8)) ∷ ‵ (fdies (tyRef (named 5) mut (pointee (R-AnswerWords .written))) l8) ∷ ‵ (froom MStamp′.mir l7 0) ∷ ‵ (fdies MStamp′.mir l7) ∷ ‵ (fat fullShare (tyInt w64) l6 0 u6) ∷ ‵ (fdies (tyInt w64) l6) ∷ ‵ (froom (sliceTy (tyRef (named 4) mut (tyInt w8))) l5 0) ∷ ‵ (fdies (sliceTy (tyRef (named 4) mut (tyInt w8))) l5) ∷ ‵ (fat fullShare (tyRef (named 3) mut (pointee (R-Watch .written))) l4 0 (vptr b4 o4)) ∷ ‵ (fdies (tyRef (named 3) mut (pointee (R-Watch .written))) l4) ∷ ‵ (fat fullShare (sliceTy (tyRef (named 2) mut (pointee (R-MasterWords .written)))) l3 0 (sliceVal (b3, o3) (length h3))) ∷ ‵ (fdies (sliceTy (tyRef (named 2) mut (pointee (R-MasterWords .written)))) l3) ∷ ‵ (fat fullShare (tyRef (named 1) mut (pointee (R-Servo .written))) l2 0 (vptr b2 o2)) ∷ ‵ (fdies (tyRef (named 1) mut (pointee (R-Servo .written))) l2) ∷ ‵ (fat fullShare (tyRef (named 0) mut (pointee (R-UnitWords .written))) l1 0 (vptr b1 o1)) ∷ ‵ (fdies (tyRef (named 0) mut (pointee (R-UnitWords .written))) l1) ∷ ‵ (froom tyUnit l0 0) ∷ ‵ (fdies tyUnit l0) ∷ []) (runs C Λ En i-15-11 qq)
+      from-15-11 : (qq : Kit-Post 𝓤 H) (ee : post 𝓤 H qq returnsᴼ ≡ atReturn 𝓤 H En Post returnsᴼ) (zs-8 : List ℕ) (len-9 : length zs-8 ≡ length h5) (p-4 : SReceived.Received) (w-3 : Val) (e-6 : (p-4 ≡ receivedBy (readOf h5)) × (zs-8 ≡ h5)) (is-7 : Is R-Received p-4 (w-3 ∷ [])) (left1 : Holds (not (p-4 .barred))) (good : Holds (not (not (eqb (length h3) 5)))) (u-24 : Val) (g-25 : Is R-SettingsWords (h1 .settings) (u-24 ∷ [])) (u-28 : Val) (g-29 : Is R-StateWords (h1 .state) (u-28 ∷ [])) (held2 : Holds (p-4 .announces)) (p-31 : ℕ) (w-30 : Val) (e-32 : p-31 ≡ intervalOf ((h1 .settings) .announce)) (is-33 : Is R-u32 p-31 (w-30 ∷ [])) (g-34 : Is R-MasterWords (el 0) (v-MasterWords (el 0))) (p-36 : SLooked.Looked) (w-35 : Val) (e-37 : p-36 ≡ lookedOf (p-4 .message) h6 p-31 (recordIn (el 0))) (is-38 : Is R-Looked p-36 (w-35 ∷ [])) (g-39 : Is R-MasterWords (el 1) (v-MasterWords (el 1))) (p-41 : SLooked.Looked) (w-40 : Val) (e-42 : p-41 ≡ lookedOf (p-4 .message) h6 p-31 (recordIn (el 1))) (is-43 : Is R-Looked p-41 (w-40 ∷ [])) (g-44 : Is R-MasterWords (el 2) (v-MasterWords (el 2))) (p-46 : SLooked.Looked) (w-45 : Val) (e-47 : p-46 ≡ lookedOf (p-4 .message) h6 p-31 (recordIn (el 2))) (is-48 : Is R-Looked p-46 (w-45 ∷ [])) → Sq W (‵ (fobs γ3 (codedHoleys R-MasterWords .code (heres R-MasterWords h3))) ∷ ‵ (fbor κ3 (Held R-MasterWords (length h3) b3 o3 γ3)) ∷ ‵ (flft κ3 q3) ∷ ‵ (fobs γ1 (R-UnitWords .coded .code h1)) ∷ ‵ (fbor κ1 (Body (mem R-UnitWords) b1 o1 γ1)) ∷ ‵ (flft κ1 q1) ∷ ‵ (MutSlice (named 4) κ5 R-u8 .own (x5 zs-8) ((sliceVal (b5, o5) (length h5)) ∷ [])) ∷ ‵ (flft κ5 q5) ∷ ‵ (flft κ8 q8) ∷ ‵ (flft κ4 q4) ∷ ‵ (flft κ2 q2) ∷ ‵ (ftrue) ∷ ‵ (fobs γ8 (R-AnswerWords .coded .code h8)) ∷ ‵ (fbor κ8 (Body (mem R-AnswerWords) b8 o8 γ8)) ∷ ‵ (R-Stamp .own h7 (u7 ∷ [])) ∷ ‵ (R-u64 .own h6 (u6 ∷ [])) ∷ ‵ (fobs γ4 (R-Watch .coded .code h4)) ∷ ‵ (fbor κ4 (Body (mem R-Watch) b4 o4 γ4)) ∷ ‵ (at-slice R-MasterWords (x3 h3) ((sliceVal (b3, o3) (length h3)) ∷ [])) ∷ ‵ (fobs γ2 (R-Servo .coded .code h2)) ∷ ‵ (fbor κ2 (Body (mem R-Servo) b2 o2 γ2)) ∷ ‵ (froom (tyRef erased mut (pointee (R-u8x128 .written))) l65 0) ∷ ‵ (fdies (tyRef erased mut (pointee (R-u8x128 .written))) l65) ∷ ‵ (froom (tyRef erased mut (pointee (R-i32x128 .written))) l64 0) ∷ ‵ (fdies (tyRef erased mut (pointee (R-i32x128 .written))) l64) ∷ ‵ (froom (tyRef erased mut (pointee (R-i64x128 .written))) l63 0) ∷ ‵ (fdies (tyRef erased mut (pointee (R-i64x128 .written))) l63) ∷ ‵ (froom MHead′.mir l62 0) ∷ ‵ (fdies MHead′.mir l62) ∷ ‵ (froom MAnswerWords′.mir l61 0) ∷ ‵ (fdies MAnswerWords′.mir l61) ∷ ‵ (froom MAnswerWords′.mir l60 0) ∷ ‵ (fdies MAnswerWords′.mir l60) ∷ ‵ (froom (tyRef erased mut (pointee (R-u8x128 .written))) l59 0) ∷ ‵ (fdies (tyRef erased mut (pointee (R-u8x128 .written))) l59) ∷ ‵ (froom (tyRef erased mut (pointee (R-i32x128 .written))) l58 0) ∷ ‵ (fdies (tyRef erased mut (pointee (R-i32x128 .written))) l58) ∷ ‵ (froom (tyRef erased mut (pointee (R-i64x128 .written))) l57 0) ∷ ‵ (fdies (tyRef erased mut (pointee (R-i64x128 .written))) l57) ∷ ‵ (froom MHead′.mir l56 0) ∷ ‵ (fdies MHead′.mir l56) ∷ ‵ (froom tyPtr l55 0) ∷ ‵ (fdies tyPtr l55) ∷ ‵ (froom tyPtr l54 0) ∷ ‵ (fdies tyPtr l54) ∷ ‵ (froom (tyInt w64) l53 0) ∷ ‵ (fdies (tyInt w64) l53) ∷ ‵ (froom MAnswerWords′.mir l52 0) ∷ ‵ (fdies MAnswerWords′.mir l52) ∷ ‵ (froom tyBool l51 0) ∷ ‵ (fdies tyBool l51) ∷ ‵ (froom tyPtr l50 0) ∷ ‵ (fdies tyPtr l50) ∷ ‵ (froom tyPtr l49 0) ∷ ‵ (fdies tyPtr l49) ∷ ‵ (froom tyPtr l48 0) ∷ ‵ (fdies tyPtr l48) ∷ ‵ (froom tyPtr l47 0) ∷ ‵ (fdies tyPtr l47) ∷ ‵ (froom MMasterWords′.mir l46 0) ∷ ‵ (fdies MMasterWords′.mir l46) ∷ ‵ (froom tyPtr l45 0) ∷ ‵ (fdies tyPtr l45) ∷ ‵ (froom MAnswerWords′.mir l44 0) ∷ ‵ (fdies MAnswerWords′.mir l44) ∷ ‵ (froom (tyInt w64) l43 0) ∷ ‵ (fdies (tyInt w64) l43) ∷ ‵ (froom MAnswerWords′.mir l42 0) ∷ ‵ (fdies MAnswerWords′.mir l42) ∷ ‵ (froom tyBool l41 0) ∷ ‵ (fdies tyBool l41) ∷ ‵ (froom (sliceTy (tyRef erased mut (tyInt w8))) l40 0) ∷ ‵ (fdies (sliceTy (tyRef erased mut (tyInt w8))) l40) ∷ ‵ (froom (tyRef erased mut (tyInt w8)) l39 0) ∷ ‵ (fdies (tyRef erased mut (tyInt w8)) l39) ∷ ‵ (froom (tyInt w16) l38 0) ∷ ‵ (fdies (tyInt w16) l38) ∷ ‵ (froom (tyInt w8) l37 0) ∷ ‵ (fdies (tyInt w8) l37) ∷ ‵ (froom MServo′.mir l36 0) ∷ ‵ (fdies MServo′.mir l36) ∷ ‵ (froom tyBool l35 0) ∷ ‵ (fdies tyBool l35) ∷ ‵ (froom tyBool l34 0) ∷ ‵ (fdies tyBool l34) ∷ ‵ (froom MAccepted′.mir l33 0) ∷ ‵ (fdies MAccepted′.mir l33) ∷ ‵ (froom MServo′.mir l32 0) ∷ ‵ (fdies MServo′.mir l32) ∷ ‵ (froom tyBool l31 0) ∷ ‵ (fdies tyBool l31) ∷ ‵ (froom MTold′.mir l30 0) ∷ ‵ (fdies MTold′.mir l30) ∷ ‵ (froom MDelaysWords′.mir l29 0) ∷ ‵ (fdies MDelaysWords′.mir l29) ∷ ‵ (froom MHalvesWords′.mir l28 0) ∷ ‵ (fdies MHalvesWords′.mir l28) ∷ ‵ (froom MEmptied′.mir l27 0) ∷ ‵ (fdies MEmptied′.mir l27) ∷ ‵ (froom tyBool l26 0) ∷ ‵ (fdies tyBool l26) ∷ ‵ (froom MHeld′.mir l25 0) ∷ ‵ (fdies MHeld′.mir l25) ∷ ‵ (froom MMasterWords′.mir l24 0) ∷ ‵ (fdies MMasterWords′.mir l24) ∷ ‵ (froom (tyInt w64) l23 0) ∷ ‵ (fdies (tyInt w64) l23) ∷ ‵ (froom tyBool l22 0) ∷ ‵ (fdies tyBool l22) ∷ ‵ (froom MSeat′.mir l21 0) ∷ ‵ (fdies MSeat′.mir l21) ∷ ‵ (froom MLooked′.mir l20 0) ∷ ‵ (fdies MLooked′.mir l20) ∷ ‵ (froom MLooked′.mir l19 0) ∷ ‵ (fdies MLooked′.mir l19) ∷ ‵ (fat fullShare MLooked′.mir l18 0 w-45) ∷ ‵ (fdies MLooked′.mir l18) ∷ ‵ (fat fullShare MLooked′.mir l17 0 w-40) ∷ ‵ (fdies MLooked′.mir l17) ∷ ‵ (fat fullShare MLooked′.mir l16 0 w-35) ∷ ‵ (fdies MLooked′.mir l16) ∷ ‵ (fat fullShare (tyInt w32) l15 0 w-30) ∷ ‵ (fdies (tyInt w32) l15) ∷ ‵ (froom tyBool l14 0) ∷ ‵ (fdies tyBool l14) ∷ ‵ (fat fullShare MStateWords′.mir l13 0 u-28) ∷ ‵ (fdies MStateWords′.mir l13) ∷ ‵ (fat fullShare MSettingsWords′.mir l12 0 u-24) ∷ ‵ (fdies MSettingsWords′.mir l12) ∷ ‵ (fat fullShare MMessage′.mir l11 0 ((parts-Received p-4 w-3 is-7) .pu0)) ∷ ‵ (fdies MMessage′.mir l11) ∷ ‵ (froom tyBool l10 0) ∷ ‵ (fdies tyBool l10) ∷ ‵ (froom MReceived′.mir l9 0) ∷ ‵ (fdies MReceived′.mir l9) ∷ ‵ (fat fullShare (tyRef (named 5) mut (pointee (R-AnswerWords .written))) l8 0 (vptr b8 o8)) ∷ ‵ (fdies (tyRef (named 5) mut (pointee (R-AnswerWords .written))) l8) ∷ ‵ (froom MStamp′.mir l7 0) ∷ ‵ (fdies MStamp′.mir l7) ∷ ‵ (fat fullShare (tyInt w64) l6 0 u6) ∷ ‵ (fdies (tyInt w64) l6) ∷ ‵ (froom (sliceTy (tyRef (named 4) mut (tyInt w8))) l5 0) ∷ ‵ (fdies (sliceTy (tyRef (named 4) mut (tyInt w8))) l5) ∷ ‵ (fat fullShare (tyRef (named 3) mut (pointee (R-Watch .written))) l4 0 (vptr b4 o4)) ∷ ‵ (fdies (tyRef (named 3) mut (pointee (R-Watch .written))) l4) ∷ ‵ (fat fullShare (sliceTy (tyRef (named 2) mut (pointee (R-MasterWords .written)))) l3 0 (sliceVal (b3, o3) (length h3))) ∷ ‵ (fdies (sliceTy (tyRef (named 2) mut (pointee (R-MasterWords .written)))) l3) ∷ ‵ (fat fullShare (tyRef (named 1) mut (pointee (R-Servo .written))) l2 0 (vptr b2 o2)) ∷ ‵ (fdies (tyRef (named 1) mut (pointee (R-Servo .written))) l2) ∷ ‵ (fat fullShare (tyRef (named 0) mut (pointee (R-UnitWords .written))) l1 0 (vptr b1 o1)) ∷ ‵ (fdies (tyRef (named 0) mut (pointee (R-UnitWords .written))) l1) ∷ ‵ (froom tyUnit l0 0) ∷ ‵ (fdies tyUnit l0) ∷ []) (runs C Λ En i-15-11 qq)
       from-15-11 qq ee zs-8 len-9 p-4 w-3 e-6 is-7 left1 good u-24 g-25 u-28 g-29 held2 p-31 w-30 e-32 is-33 g-34 p-36 w-35 e-37 is-38 g-39 p-41 w-40 e-42 is-43 g-44 p-46 w-45 e-47 is-48 =
           opens-slice ! tt R-MasterWords h3 b3 o3 $
-          assigns ! (bin ! (load ! (from ! (fld ! refl (stop !))) (look-in ! 138 (sub ! 0 refl (whole !)))) (lit ! tt) tt) (from ! (stop !)) (init ! 54 refl (tt, tt)) $
-          rewrite ! 54 (λ (p : ℕ). ‵ (fat fullShare tyPtr l45 0 (vptr b3 p))) (sym (place-is 96 o3 3)) refl $
+          assigns ! (bin ! (load ! (from ! (fld ! refl (stop !))) (look-in ! 146 (sub ! 0 refl (whole !)))) (lit ! tt) tt) (from ! (stop !)) (init ! 54 refl (tt, tt)) $
+          rewrite ! 54 (λ (p : ℕ). ‵ (fat fullShare tyPtr l49 0 (vptr b3 p))) (sym (place-is 96 o3 3)) refl $
           elem-out ! R-MasterWords (Is R-MasterWords) (shows 𝓤 H A R-MasterWords) v-MasterWords tells-MasterWords fullShare h3 3 noMaster b3 o3 (within 3 (length h3) (lit< tt) good) (λ g-49.
           assigns ! (of-opd ! (load ! (from ! (hop ! (look ! 56 refl) (stop !))) (look-raw ! 0 refl))) (from ! (stop !)) (init ! 62 refl (lawful-MasterWords 𝓤 H A W .typed (el 3) _ g-49 .0)) $
           elem-back ! R-MasterWords fullShare h3 3 noMaster (v-MasterWords (el 3)) b3 o3 (within 3 (length h3) (lit< tt) good) $
           use0 W (raw (C-look 𝓤 H A at-mem run .pre (to-look (el 3) (only (v-MasterWords (el 3))) (p-4 .message) ((parts-Received p-4 w-3 is-7) .pu0) h6 u6 p-31 w-30))) (goes-look (el 3) (only (v-MasterWords (el 3))) g-49 (p-4 .message) ((parts-Received p-4 w-3 is-7) .pu0) ((parts-Received p-4 w-3 is-7) .pg0) h6 u6 g6 p-31 w-30 is-33) $
-          calls-at ! fm (C-look 𝓤 H A at-mem run) known-look (to-look (el 3) (only (v-MasterWords (el 3))) (p-4 .message) ((parts-Received p-4 w-3 is-7) .pu0) h6 u6 p-31 w-30) (and-then ! (load ! (from ! (stop !)) (look ! 61 refl)) (and-then ! (load ! (from ! (stop !)) (look ! 123 refl)) (and-then ! (load ! (from ! (stop !)) (look ! 133 refl)) (and-then ! (load ! (from ! (stop !)) (look ! 115 refl)) (no-more !))))) (λ w-50.
+          calls-at ! fm (C-look 𝓤 H A at-mem run) known-look (to-look (el 3) (only (v-MasterWords (el 3))) (p-4 .message) ((parts-Received p-4 w-3 is-7) .pu0) h6 u6 p-31 w-30) (and-then ! (load ! (from ! (stop !)) (look ! 61 refl)) (and-then ! (load ! (from ! (stop !)) (look ! 131 refl)) (and-then ! (load ! (from ! (stop !)) (look ! 141 refl)) (and-then ! (load ! (from ! (stop !)) (look ! 123 refl)) (no-more !))))) (λ w-50.
           use1 W (later (some (λ (p-51 : SLooked.Looked). (‵ ftrue ⊛ ‵ (R-Looked .own p-51 (w-50 ∷ []))) ⊛ raw (ensured 𝓤 H A f-look.ended (f-look.clauses 𝓤 H A at-mem run) tt ((el 3), ((p-4 .message), (h6, (p-31, tt)))) tt p-51)))) (id⊢ 𝓤 _) $ await ! tt $
           pick ! (λ p-51.
           split ! $
@@ -2397,21 +2397,21 @@ module _ {M : Type 1} (𝓤 : URA M) (H : Heap 𝓤) (A : Atoms 𝓤) (W : Given
           drop ! $
           peeks ! R-Looked (Is R-Looked) (shows 𝓤 H A R-Looked) p-51 (w-50 ∷ []) (λ is-53.
           drop ! $
-          land ! (from ! (stop !)) (init ! 106 refl (lawful-Looked 𝓤 H A W .typed p-51 _ is-53 .0)) $
+          land ! (from ! (stop !)) (init ! 114 refl (lawful-Looked 𝓤 H A W .typed p-51 _ is-53 .0)) $
           closes-slice ! tt R-MasterWords h3 h3 refl b3 o3 $
           forget ! 53 refl $ forget ! 59 refl $
           from-15-14 qq ee zs-8 len-9 p-4 w-3 e-6 is-7 left1 good u-24 g-25 u-28 g-29 held2 p-31 w-30 e-32 is-33 g-34 p-36 w-35 e-37 is-38 g-39 p-41 w-40 e-42 is-43 g-44 p-46 w-45 e-47 is-48 g-49 p-51 w-50 e-52 is-53)))))
 
-      from-15-8 : (qq : Kit-Post 𝓤 H) (ee : post 𝓤 H qq returnsᴼ ≡ atReturn 𝓤 H En Post returnsᴼ) (zs-8 : List ℕ) (len-9 : length zs-8 ≡ length h5) (p-4 : SReceived.Received) (w-3 : Val) (e-6 : (p-4 ≡ receivedBy (readOf h5)) × (zs-8 ≡ h5)) (is-7 : Is R-Received p-4 (w-3 ∷ [])) (left1 : Holds (not (p-4 .barred))) (good : Holds (not (not (eqb (length h3) 5)))) (u-24 : Val) (g-25 : Is R-SettingsWords (h1 .settings) (u-24 ∷ [])) (u-28 : Val) (g-29 : Is R-StateWords (h1 .state) (u-28 ∷ [])) (held2 : Holds (p-4 .announces)) (p-31 : ℕ) (w-30 : Val) (e-32 : p-31 ≡ intervalOf ((h1 .settings) .announce)) (is-33 : Is R-u32 p-31 (w-30 ∷ [])) (g-34 : Is R-MasterWords (el 0) (v-MasterWords (el 0))) (p-36 : SLooked.Looked) (w-35 : Val) (e-37 : p-36 ≡ lookedOf (p-4 .message) h6 p-31 (recordIn (el 0))) (is-38 : Is R-Looked p-36 (w-35 ∷ [])) (g-39 : Is R-MasterWords (el 1) (v-MasterWords (el 1))) (p-41 : SLooked.Looked) (w-40 : Val) (e-42 : p-41 ≡ lookedOf (p-4 .message) h6 p-31 (recordIn (el 1))) (is-43 : Is R-Looked p-41 (w-40 ∷ [])) → Sq W (‵ (fobs γ3 (codedHoleys R-MasterWords .code (heres R-MasterWords h3))) ∷ ‵ (fbor κ3 (Held R-MasterWords (length h3) b3 o3 γ3)) ∷ ‵ (flft κ3 q3) ∷ ‵ (fobs γ1 (R-UnitWords .coded .code h1)) ∷ ‵ (fbor κ1 (Body (mem R-UnitWords) b1 o1 γ1)) ∷ ‵ (flft κ1 q1) ∷ ‵ (MutSlice (named 4) κ5 R-u8 .own (x5 zs-8) ((sliceVal (b5, o5) (length h5)) ∷ [])) ∷ ‵ (flft κ5 q5) ∷ ‵ (flft κ8 q8) ∷ ‵ (flft κ4 q4) ∷ ‵ (flft κ2 q2) ∷ ‵ (ftrue) ∷ ‵ (fobs γ8 (R-AnswerWords .coded .code h8)) ∷ ‵ (fbor κ8 (Body (mem R-AnswerWords) b8 o8 γ8)) ∷ ‵ (R-Stamp .own h7 (u7 ∷ [])) ∷ ‵ (R-u64 .own h6 (u6 ∷ [])) ∷ ‵ (fobs γ4 (R-Watch .coded .code h4)) ∷ ‵ (fbor κ4 (Body (mem R-Watch) b4 o4 γ4)) ∷ ‵ (at-slice R-MasterWords (x3 h3) ((sliceVal (b3, o3) (length h3)) ∷ [])) ∷ ‵ (fobs γ2 (R-Servo .coded .code h2)) ∷ ‵ (fbor κ2 (Body (mem R-Servo) b2 o2 γ2)) ∷ ‵ (froom (tyRef erased mut (pointee (R-u8x128 .written))) l61 0) ∷ ‵ (fdies (tyRef erased mut (pointee (R-u8x128 .written))) l61) ∷ ‵ (froom (tyRef erased mut (pointee (R-i32x128 .written))) l60 0) ∷ ‵ (fdies (tyRef erased mut (pointee (R-i32x128 .written))) l60) ∷ ‵ (froom (tyRef erased mut (pointee (R-i64x128 .written))) l59 0) ∷ ‵ (fdies (tyRef erased mut (pointee (R-i64x128 .written))) l59) ∷ ‵ (froom MHead′.mir l58 0) ∷ ‵ (fdies MHead′.mir l58) ∷ ‵ (froom MAnswerWords′.mir l57 0) ∷ ‵ (fdies MAnswerWords′.mir l57) ∷ ‵ (froom MAnswerWords′.mir l56 0) ∷ ‵ (fdies MAnswerWords′.mir l56) ∷ ‵ (froom (tyRef erased mut (pointee (R-u8x128 .written))) l55 0) ∷ ‵ (fdies (tyRef erased mut (pointee (R-u8x128 .written))) l55) ∷ ‵ (froom (tyRef erased mut (pointee (R-i32x128 .written))) l54 0) ∷ ‵ (fdies (tyRef erased mut (pointee (R-i32x128 .written))) l54) ∷ ‵ (froom (tyRef erased mut (pointee (R-i64x128 .written))) l53 0) ∷ ‵ (fdies (tyRef erased mut (pointee (R-i64x128 .written))) l53) ∷ ‵ (froom MHead′.mir l52 0) ∷ ‵ (fdies MHead′.mir l52) ∷ ‵ (froom tyPtr l51 0) ∷ ‵ (fdies tyPtr l51) ∷ ‵ (froom tyPtr l50 0) ∷ ‵ (fdies tyPtr l50) ∷ ‵ (froom (tyInt w64) l49 0) ∷ ‵ (fdies (tyInt w64) l49) ∷ ‵ (froom MAnswerWords′.mir l48 0) ∷ ‵ (fdies MAnswerWords′.mir l48) ∷ ‵ (froom tyBool l47 0) ∷ ‵ (fdies tyBool l47) ∷ ‵ (froom tyPtr l46 0) ∷ ‵ (fdies tyPtr l46) ∷ ‵ (froom tyPtr l45 0) ∷ ‵ (fdies tyPtr l45) ∷ ‵ (froom tyPtr l44 0) ∷ ‵ (fdies tyPtr l44) ∷ ‵ (froom tyPtr l43 0) ∷ ‵ (fdies tyPtr l43) ∷ ‵ (froom MMasterWords′.mir l42 0) ∷ ‵ (fdies MMasterWords′.mir l42) ∷ ‵ (froom tyPtr l41 0) ∷ ‵ (fdies tyPtr l41) ∷ ‵ (froom MAnswerWords′.mir l40 0) ∷ ‵ (fdies MAnswerWords′.mir l40) ∷ ‵ (froom (tyInt w64) l39 0) ∷ ‵ (fdies (tyInt w64) l39) ∷ ‵ (froom MAnswerWords′.mir l38 0) ∷ ‵ (fdies MAnswerWords′.mir l38) ∷ ‵ (froom tyBool l37 0) ∷ ‵ (fdies tyBool l37) ∷ ‵ (froom (sliceTy (tyRef erased mut (tyInt w8))) l36 0) ∷ ‵ (fdies (sliceTy (tyRef erased mut (tyInt w8))) l36) ∷ ‵ (froom (tyRef erased mut (tyInt w8)) l35 0) ∷ ‵ (fdies (tyRef erased mut (tyInt w8)) l35) ∷ ‵ (froom tyBool l34 0) ∷ ‵ (fdies tyBool l34) ∷ ‵ (froom MServo′.mir l33 0) ∷ ‵ (fdies MServo′.mir l33) ∷ ‵ (froom MServo′.mir l32 0) ∷ ‵ (fdies MServo′.mir l32) ∷ ‵ (froom tyBool l31 0) ∷ ‵ (fdies tyBool l31) ∷ ‵ (froom MTold′.mir l30 0) ∷ ‵ (fdies MTold′.mir l30) ∷ ‵ (froom MDelaysWords′.mir l29 0) ∷ ‵ (fdies MDelaysWords′.mir l29) ∷ ‵ (froom MHalvesWords′.mir l28 0) ∷ ‵ (fdies MHalvesWords′.mir l28) ∷ ‵ (froom MEmptied′.mir l27 0) ∷ ‵ (fdies MEmptied′.mir l27) ∷ ‵ (froom tyBool l26 0) ∷ ‵ (fdies tyBool l26) ∷ ‵ (froom MHeld′.mir l25 0) ∷ ‵ (fdies MHeld′.mir l25) ∷ ‵ (froom MMasterWords′.mir l24 0) ∷ ‵ (fdies MMasterWords′.mir l24) ∷ ‵ (froom (tyInt w64) l23 0) ∷ ‵ (fdies (tyInt w64) l23) ∷ ‵ (froom tyBool l22 0) ∷ ‵ (fdies tyBool l22) ∷ ‵ (froom MSeat′.mir l21 0) ∷ ‵ (fdies MSeat′.mir l21) ∷ ‵ (froom MLooked′.mir l20 0) ∷ ‵ (fdies MLooked′.mir l20) ∷ ‵ (froom MLooked′.mir l19 0) ∷ ‵ (fdies MLooked′.mir l19) ∷ ‵ (froom MLooked′.mir l18 0) ∷ ‵ (fdies MLooked′.mir l18) ∷ ‵ (fat fullShare MLooked′.mir l17 0 w-40) ∷ ‵ (fdies MLooked′.mir l17) ∷ ‵ (fat fullShare MLooked′.mir l16 0 w-35) ∷ ‵ (fdies MLooked′.mir l16) ∷ ‵ (fat fullShare (tyInt w32) l15 0 w-30) ∷ ‵ (fdies (tyInt w32) l15) ∷ ‵ (froom tyBool l14 0) ∷ ‵ (fdies tyBool l14) ∷ ‵ (fat fullShare MStateWords′.mir l13 0 u-28) ∷ ‵ (fdies MStateWords′.mir l13) ∷ ‵ (fat fullShare MSettingsWords′.mir l12 0 u-24) ∷ ‵ (fdies MSettingsWords′.mir l12) ∷ ‵ (fat fullShare MMessage′.mir l11 0 ((parts-Received p-4 w-3 is-7) .pu0)) ∷ ‵ (fdies MMessage′.mir l11) ∷ ‵ (froom tyBool l10 0) ∷ ‵ (fdies tyBool l10) ∷ ‵ (froom MReceived′.mir l9 0) ∷ ‵ (fdies MReceived′.mir l9) ∷ ‵ (fat fullShare (tyRef (named 5) mut (pointee (R-AnswerWords .written))) l8 0 (vptr b8 o8)) ∷ ‵ (fdies (tyRef (named 5) mut (pointee (R-AnswerWords .written))) l8) ∷ ‵ (froom MStamp′.mir l7 0) ∷ ‵ (fdies MStamp′.mir l7) ∷ ‵ (fat fullShare (tyInt w64) l6 0 u6) ∷ ‵ (fdies (tyInt w64) l6) ∷ ‵ (froom (sliceTy (tyRef (named 4) mut (tyInt w8))) l5 0) ∷ ‵ (fdies (sliceTy (tyRef (named 4) mut (tyInt w8))) l5) ∷ ‵ (fat fullShare (tyRef (named 3) mut (pointee (R-Watch .written))) l4 0 (vptr b4 o4)) ∷ ‵ (fdies (tyRef (named 3) mut (pointee (R-Watch .written))) l4) ∷ ‵ (fat fullShare (sliceTy (tyRef (named 2) mut (pointee (R-MasterWords .written)))) l3 0 (sliceVal (b3, o3) (length h3))) ∷ ‵ (fdies (sliceTy (tyRef (named 2) mut (pointee (R-MasterWords .written)))) l3) ∷ ‵ (fat fullShare (tyRef (named 1) mut (pointee (R-Servo .written))) l2 0 (vptr b2 o2)) ∷ ‵ (fdies (tyRef (named 1) mut (pointee (R-Servo .written))) l2) ∷ ‵ (fat fullShare (tyRef (named 0) mut (pointee (R-UnitWords .written))) l1 0 (vptr b1 o1)) ∷ ‵ (fdies (tyRef (named 0) mut (pointee (R-UnitWords .written))) l1) ∷ ‵ (froom tyUnit l0 0) ∷ ‵ (fdies tyUnit l0) ∷ []) (runs C Λ En i-15-8 qq)
+      from-15-8 : (qq : Kit-Post 𝓤 H) (ee : post 𝓤 H qq returnsᴼ ≡ atReturn 𝓤 H En Post returnsᴼ) (zs-8 : List ℕ) (len-9 : length zs-8 ≡ length h5) (p-4 : SReceived.Received) (w-3 : Val) (e-6 : (p-4 ≡ receivedBy (readOf h5)) × (zs-8 ≡ h5)) (is-7 : Is R-Received p-4 (w-3 ∷ [])) (left1 : Holds (not (p-4 .barred))) (good : Holds (not (not (eqb (length h3) 5)))) (u-24 : Val) (g-25 : Is R-SettingsWords (h1 .settings) (u-24 ∷ [])) (u-28 : Val) (g-29 : Is R-StateWords (h1 .state) (u-28 ∷ [])) (held2 : Holds (p-4 .announces)) (p-31 : ℕ) (w-30 : Val) (e-32 : p-31 ≡ intervalOf ((h1 .settings) .announce)) (is-33 : Is R-u32 p-31 (w-30 ∷ [])) (g-34 : Is R-MasterWords (el 0) (v-MasterWords (el 0))) (p-36 : SLooked.Looked) (w-35 : Val) (e-37 : p-36 ≡ lookedOf (p-4 .message) h6 p-31 (recordIn (el 0))) (is-38 : Is R-Looked p-36 (w-35 ∷ [])) (g-39 : Is R-MasterWords (el 1) (v-MasterWords (el 1))) (p-41 : SLooked.Looked) (w-40 : Val) (e-42 : p-41 ≡ lookedOf (p-4 .message) h6 p-31 (recordIn (el 1))) (is-43 : Is R-Looked p-41 (w-40 ∷ [])) → Sq W (‵ (fobs γ3 (codedHoleys R-MasterWords .code (heres R-MasterWords h3))) ∷ ‵ (fbor κ3 (Held R-MasterWords (length h3) b3 o3 γ3)) ∷ ‵ (flft κ3 q3) ∷ ‵ (fobs γ1 (R-UnitWords .coded .code h1)) ∷ ‵ (fbor κ1 (Body (mem R-UnitWords) b1 o1 γ1)) ∷ ‵ (flft κ1 q1) ∷ ‵ (MutSlice (named 4) κ5 R-u8 .own (x5 zs-8) ((sliceVal (b5, o5) (length h5)) ∷ [])) ∷ ‵ (flft κ5 q5) ∷ ‵ (flft κ8 q8) ∷ ‵ (flft κ4 q4) ∷ ‵ (flft κ2 q2) ∷ ‵ (ftrue) ∷ ‵ (fobs γ8 (R-AnswerWords .coded .code h8)) ∷ ‵ (fbor κ8 (Body (mem R-AnswerWords) b8 o8 γ8)) ∷ ‵ (R-Stamp .own h7 (u7 ∷ [])) ∷ ‵ (R-u64 .own h6 (u6 ∷ [])) ∷ ‵ (fobs γ4 (R-Watch .coded .code h4)) ∷ ‵ (fbor κ4 (Body (mem R-Watch) b4 o4 γ4)) ∷ ‵ (at-slice R-MasterWords (x3 h3) ((sliceVal (b3, o3) (length h3)) ∷ [])) ∷ ‵ (fobs γ2 (R-Servo .coded .code h2)) ∷ ‵ (fbor κ2 (Body (mem R-Servo) b2 o2 γ2)) ∷ ‵ (froom (tyRef erased mut (pointee (R-u8x128 .written))) l65 0) ∷ ‵ (fdies (tyRef erased mut (pointee (R-u8x128 .written))) l65) ∷ ‵ (froom (tyRef erased mut (pointee (R-i32x128 .written))) l64 0) ∷ ‵ (fdies (tyRef erased mut (pointee (R-i32x128 .written))) l64) ∷ ‵ (froom (tyRef erased mut (pointee (R-i64x128 .written))) l63 0) ∷ ‵ (fdies (tyRef erased mut (pointee (R-i64x128 .written))) l63) ∷ ‵ (froom MHead′.mir l62 0) ∷ ‵ (fdies MHead′.mir l62) ∷ ‵ (froom MAnswerWords′.mir l61 0) ∷ ‵ (fdies MAnswerWords′.mir l61) ∷ ‵ (froom MAnswerWords′.mir l60 0) ∷ ‵ (fdies MAnswerWords′.mir l60) ∷ ‵ (froom (tyRef erased mut (pointee (R-u8x128 .written))) l59 0) ∷ ‵ (fdies (tyRef erased mut (pointee (R-u8x128 .written))) l59) ∷ ‵ (froom (tyRef erased mut (pointee (R-i32x128 .written))) l58 0) ∷ ‵ (fdies (tyRef erased mut (pointee (R-i32x128 .written))) l58) ∷ ‵ (froom (tyRef erased mut (pointee (R-i64x128 .written))) l57 0) ∷ ‵ (fdies (tyRef erased mut (pointee (R-i64x128 .written))) l57) ∷ ‵ (froom MHead′.mir l56 0) ∷ ‵ (fdies MHead′.mir l56) ∷ ‵ (froom tyPtr l55 0) ∷ ‵ (fdies tyPtr l55) ∷ ‵ (froom tyPtr l54 0) ∷ ‵ (fdies tyPtr l54) ∷ ‵ (froom (tyInt w64) l53 0) ∷ ‵ (fdies (tyInt w64) l53) ∷ ‵ (froom MAnswerWords′.mir l52 0) ∷ ‵ (fdies MAnswerWords′.mir l52) ∷ ‵ (froom tyBool l51 0) ∷ ‵ (fdies tyBool l51) ∷ ‵ (froom tyPtr l50 0) ∷ ‵ (fdies tyPtr l50) ∷ ‵ (froom tyPtr l49 0) ∷ ‵ (fdies tyPtr l49) ∷ ‵ (froom tyPtr l48 0) ∷ ‵ (fdies tyPtr l48) ∷ ‵ (froom tyPtr l47 0) ∷ ‵ (fdies tyPtr l47) ∷ ‵ (froom MMasterWords′.mir l46 0) ∷ ‵ (fdies MMasterWords′.mir l46) ∷ ‵ (froom tyPtr l45 0) ∷ ‵ (fdies tyPtr l45) ∷ ‵ (froom MAnswerWords′.mir l44 0) ∷ ‵ (fdies MAnswerWords′.mir l44) ∷ ‵ (froom (tyInt w64) l43 0) ∷ ‵ (fdies (tyInt w64) l43) ∷ ‵ (froom MAnswerWords′.mir l42 0) ∷ ‵ (fdies MAnswerWords′.mir l42) ∷ ‵ (froom tyBool l41 0) ∷ ‵ (fdies tyBool l41) ∷ ‵ (froom (sliceTy (tyRef erased mut (tyInt w8))) l40 0) ∷ ‵ (fdies (sliceTy (tyRef erased mut (tyInt w8))) l40) ∷ ‵ (froom (tyRef erased mut (tyInt w8)) l39 0) ∷ ‵ (fdies (tyRef erased mut (tyInt w8)) l39) ∷ ‵ (froom (tyInt w16) l38 0) ∷ ‵ (fdies (tyInt w16) l38) ∷ ‵ (froom (tyInt w8) l37 0) ∷ ‵ (fdies (tyInt w8) l37) ∷ ‵ (froom MServo′.mir l36 0) ∷ ‵ (fdies MServo′.mir l36) ∷ ‵ (froom tyBool l35 0) ∷ ‵ (fdies tyBool l35) ∷ ‵ (froom tyBool l34 0) ∷ ‵ (fdies tyBool l34) ∷ ‵ (froom MAccepted′.mir l33 0) ∷ ‵ (fdies MAccepted′.mir l33) ∷ ‵ (froom MServo′.mir l32 0) ∷ ‵ (fdies MServo′.mir l32) ∷ ‵ (froom tyBool l31 0) ∷ ‵ (fdies tyBool l31) ∷ ‵ (froom MTold′.mir l30 0) ∷ ‵ (fdies MTold′.mir l30) ∷ ‵ (froom MDelaysWords′.mir l29 0) ∷ ‵ (fdies MDelaysWords′.mir l29) ∷ ‵ (froom MHalvesWords′.mir l28 0) ∷ ‵ (fdies MHalvesWords′.mir l28) ∷ ‵ (froom MEmptied′.mir l27 0) ∷ ‵ (fdies MEmptied′.mir l27) ∷ ‵ (froom tyBool l26 0) ∷ ‵ (fdies tyBool l26) ∷ ‵ (froom MHeld′.mir l25 0) ∷ ‵ (fdies MHeld′.mir l25) ∷ ‵ (froom MMasterWords′.mir l24 0) ∷ ‵ (fdies MMasterWords′.mir l24) ∷ ‵ (froom (tyInt w64) l23 0) ∷ ‵ (fdies (tyInt w64) l23) ∷ ‵ (froom tyBool l22 0) ∷ ‵ (fdies tyBool l22) ∷ ‵ (froom MSeat′.mir l21 0) ∷ ‵ (fdies MSeat′.mir l21) ∷ ‵ (froom MLooked′.mir l20 0) ∷ ‵ (fdies MLooked′.mir l20) ∷ ‵ (froom MLooked′.mir l19 0) ∷ ‵ (fdies MLooked′.mir l19) ∷ ‵ (froom MLooked′.mir l18 0) ∷ ‵ (fdies MLooked′.mir l18) ∷ ‵ (fat fullShare MLooked′.mir l17 0 w-40) ∷ ‵ (fdies MLooked′.mir l17) ∷ ‵ (fat fullShare MLooked′.mir l16 0 w-35) ∷ ‵ (fdies MLooked′.mir l16) ∷ ‵ (fat fullShare (tyInt w32) l15 0 w-30) ∷ ‵ (fdies (tyInt w32) l15) ∷ ‵ (froom tyBool l14 0) ∷ ‵ (fdies tyBool l14) ∷ ‵ (fat fullShare MStateWords′.mir l13 0 u-28) ∷ ‵ (fdies MStateWords′.mir l13) ∷ ‵ (fat fullShare MSettingsWords′.mir l12 0 u-24) ∷ ‵ (fdies MSettingsWords′.mir l12) ∷ ‵ (fat fullShare MMessage′.mir l11 0 ((parts-Received p-4 w-3 is-7) .pu0)) ∷ ‵ (fdies MMessage′.mir l11) ∷ ‵ (froom tyBool l10 0) ∷ ‵ (fdies tyBool l10) ∷ ‵ (froom MReceived′.mir l9 0) ∷ ‵ (fdies MReceived′.mir l9) ∷ ‵ (fat fullShare (tyRef (named 5) mut (pointee (R-AnswerWords .written))) l8 0 (vptr b8 o8)) ∷ ‵ (fdies (tyRef (named 5) mut (pointee (R-AnswerWords .written))) l8) ∷ ‵ (froom MStamp′.mir l7 0) ∷ ‵ (fdies MStamp′.mir l7) ∷ ‵ (fat fullShare (tyInt w64) l6 0 u6) ∷ ‵ (fdies (tyInt w64) l6) ∷ ‵ (froom (sliceTy (tyRef (named 4) mut (tyInt w8))) l5 0) ∷ ‵ (fdies (sliceTy (tyRef (named 4) mut (tyInt w8))) l5) ∷ ‵ (fat fullShare (tyRef (named 3) mut (pointee (R-Watch .written))) l4 0 (vptr b4 o4)) ∷ ‵ (fdies (tyRef (named 3) mut (pointee (R-Watch .written))) l4) ∷ ‵ (fat fullShare (sliceTy (tyRef (named 2) mut (pointee (R-MasterWords .written)))) l3 0 (sliceVal (b3, o3) (length h3))) ∷ ‵ (fdies (sliceTy (tyRef (named 2) mut (pointee (R-MasterWords .written)))) l3) ∷ ‵ (fat fullShare (tyRef (named 1) mut (pointee (R-Servo .written))) l2 0 (vptr b2 o2)) ∷ ‵ (fdies (tyRef (named 1) mut (pointee (R-Servo .written))) l2) ∷ ‵ (fat fullShare (tyRef (named 0) mut (pointee (R-UnitWords .written))) l1 0 (vptr b1 o1)) ∷ ‵ (fdies (tyRef (named 0) mut (pointee (R-UnitWords .written))) l1) ∷ ‵ (froom tyUnit l0 0) ∷ ‵ (fdies tyUnit l0) ∷ []) (runs C Λ En i-15-8 qq)
       from-15-8 qq ee zs-8 len-9 p-4 w-3 e-6 is-7 left1 good u-24 g-25 u-28 g-29 held2 p-31 w-30 e-32 is-33 g-34 p-36 w-35 e-37 is-38 g-39 p-41 w-40 e-42 is-43 =
           opens-slice ! tt R-MasterWords h3 b3 o3 $
-          assigns ! (bin ! (load ! (from ! (fld ! refl (stop !))) (look-in ! 138 (sub ! 0 refl (whole !)))) (lit ! tt) tt) (from ! (stop !)) (init ! 56 refl (tt, tt)) $
-          rewrite ! 56 (λ (p : ℕ). ‵ (fat fullShare tyPtr l44 0 (vptr b3 p))) (sym (place-is 96 o3 2)) refl $
+          assigns ! (bin ! (load ! (from ! (fld ! refl (stop !))) (look-in ! 146 (sub ! 0 refl (whole !)))) (lit ! tt) tt) (from ! (stop !)) (init ! 56 refl (tt, tt)) $
+          rewrite ! 56 (λ (p : ℕ). ‵ (fat fullShare tyPtr l48 0 (vptr b3 p))) (sym (place-is 96 o3 2)) refl $
           elem-out ! R-MasterWords (Is R-MasterWords) (shows 𝓤 H A R-MasterWords) v-MasterWords tells-MasterWords fullShare h3 2 noMaster b3 o3 (within 2 (length h3) (lit< tt) good) (λ g-44.
           assigns ! (of-opd ! (load ! (from ! (hop ! (look ! 58 refl) (stop !))) (look-raw ! 0 refl))) (from ! (stop !)) (init ! 62 refl (lawful-MasterWords 𝓤 H A W .typed (el 2) _ g-44 .0)) $
           elem-back ! R-MasterWords fullShare h3 2 noMaster (v-MasterWords (el 2)) b3 o3 (within 2 (length h3) (lit< tt) good) $
           use0 W (raw (C-look 𝓤 H A at-mem run .pre (to-look (el 2) (only (v-MasterWords (el 2))) (p-4 .message) ((parts-Received p-4 w-3 is-7) .pu0) h6 u6 p-31 w-30))) (goes-look (el 2) (only (v-MasterWords (el 2))) g-44 (p-4 .message) ((parts-Received p-4 w-3 is-7) .pu0) ((parts-Received p-4 w-3 is-7) .pg0) h6 u6 g6 p-31 w-30 is-33) $
-          calls-at ! fm (C-look 𝓤 H A at-mem run) known-look (to-look (el 2) (only (v-MasterWords (el 2))) (p-4 .message) ((parts-Received p-4 w-3 is-7) .pu0) h6 u6 p-31 w-30) (and-then ! (load ! (from ! (stop !)) (look ! 61 refl)) (and-then ! (load ! (from ! (stop !)) (look ! 123 refl)) (and-then ! (load ! (from ! (stop !)) (look ! 133 refl)) (and-then ! (load ! (from ! (stop !)) (look ! 115 refl)) (no-more !))))) (λ w-45.
+          calls-at ! fm (C-look 𝓤 H A at-mem run) known-look (to-look (el 2) (only (v-MasterWords (el 2))) (p-4 .message) ((parts-Received p-4 w-3 is-7) .pu0) h6 u6 p-31 w-30) (and-then ! (load ! (from ! (stop !)) (look ! 61 refl)) (and-then ! (load ! (from ! (stop !)) (look ! 131 refl)) (and-then ! (load ! (from ! (stop !)) (look ! 141 refl)) (and-then ! (load ! (from ! (stop !)) (look ! 123 refl)) (no-more !))))) (λ w-45.
           use1 W (later (some (λ (p-46 : SLooked.Looked). (‵ ftrue ⊛ ‵ (R-Looked .own p-46 (w-45 ∷ []))) ⊛ raw (ensured 𝓤 H A f-look.ended (f-look.clauses 𝓤 H A at-mem run) tt ((el 2), ((p-4 .message), (h6, (p-31, tt)))) tt p-46)))) (id⊢ 𝓤 _) $ await ! tt $
           pick ! (λ p-46.
           split ! $
@@ -2422,21 +2422,21 @@ module _ {M : Type 1} (𝓤 : URA M) (H : Heap 𝓤) (A : Atoms 𝓤) (W : Given
           drop ! $
           peeks ! R-Looked (Is R-Looked) (shows 𝓤 H A R-Looked) p-46 (w-45 ∷ []) (λ is-48.
           drop ! $
-          land ! (from ! (stop !)) (init ! 108 refl (lawful-Looked 𝓤 H A W .typed p-46 _ is-48 .0)) $
+          land ! (from ! (stop !)) (init ! 116 refl (lawful-Looked 𝓤 H A W .typed p-46 _ is-48 .0)) $
           closes-slice ! tt R-MasterWords h3 h3 refl b3 o3 $
           forget ! 55 refl $ forget ! 59 refl $
           from-15-11 qq ee zs-8 len-9 p-4 w-3 e-6 is-7 left1 good u-24 g-25 u-28 g-29 held2 p-31 w-30 e-32 is-33 g-34 p-36 w-35 e-37 is-38 g-39 p-41 w-40 e-42 is-43 g-44 p-46 w-45 e-47 is-48)))))
 
-      from-15-5 : (qq : Kit-Post 𝓤 H) (ee : post 𝓤 H qq returnsᴼ ≡ atReturn 𝓤 H En Post returnsᴼ) (zs-8 : List ℕ) (len-9 : length zs-8 ≡ length h5) (p-4 : SReceived.Received) (w-3 : Val) (e-6 : (p-4 ≡ receivedBy (readOf h5)) × (zs-8 ≡ h5)) (is-7 : Is R-Received p-4 (w-3 ∷ [])) (left1 : Holds (not (p-4 .barred))) (good : Holds (not (not (eqb (length h3) 5)))) (u-24 : Val) (g-25 : Is R-SettingsWords (h1 .settings) (u-24 ∷ [])) (u-28 : Val) (g-29 : Is R-StateWords (h1 .state) (u-28 ∷ [])) (held2 : Holds (p-4 .announces)) (p-31 : ℕ) (w-30 : Val) (e-32 : p-31 ≡ intervalOf ((h1 .settings) .announce)) (is-33 : Is R-u32 p-31 (w-30 ∷ [])) (g-34 : Is R-MasterWords (el 0) (v-MasterWords (el 0))) (p-36 : SLooked.Looked) (w-35 : Val) (e-37 : p-36 ≡ lookedOf (p-4 .message) h6 p-31 (recordIn (el 0))) (is-38 : Is R-Looked p-36 (w-35 ∷ [])) → Sq W (‵ (fobs γ3 (codedHoleys R-MasterWords .code (heres R-MasterWords h3))) ∷ ‵ (fbor κ3 (Held R-MasterWords (length h3) b3 o3 γ3)) ∷ ‵ (flft κ3 q3) ∷ ‵ (fobs γ1 (R-UnitWords .coded .code h1)) ∷ ‵ (fbor κ1 (Body (mem R-UnitWords) b1 o1 γ1)) ∷ ‵ (flft κ1 q1) ∷ ‵ (MutSlice (named 4) κ5 R-u8 .own (x5 zs-8) ((sliceVal (b5, o5) (length h5)) ∷ [])) ∷ ‵ (flft κ5 q5) ∷ ‵ (flft κ8 q8) ∷ ‵ (flft κ4 q4) ∷ ‵ (flft κ2 q2) ∷ ‵ (ftrue) ∷ ‵ (fobs γ8 (R-AnswerWords .coded .code h8)) ∷ ‵ (fbor κ8 (Body (mem R-AnswerWords) b8 o8 γ8)) ∷ ‵ (R-Stamp .own h7 (u7 ∷ [])) ∷ ‵ (R-u64 .own h6 (u6 ∷ [])) ∷ ‵ (fobs γ4 (R-Watch .coded .code h4)) ∷ ‵ (fbor κ4 (Body (mem R-Watch) b4 o4 γ4)) ∷ ‵ (at-slice R-MasterWords (x3 h3) ((sliceVal (b3, o3) (length h3)) ∷ [])) ∷ ‵ (fobs γ2 (R-Servo .coded .code h2)) ∷ ‵ (fbor κ2 (Body (mem R-Servo) b2 o2 γ2)) ∷ ‵ (froom (tyRef erased mut (pointee (R-u8x128 .written))) l61 0) ∷ ‵ (fdies (tyRef erased mut (pointee (R-u8x128 .written))) l61) ∷ ‵ (froom (tyRef erased mut (pointee (R-i32x128 .written))) l60 0) ∷ ‵ (fdies (tyRef erased mut (pointee (R-i32x128 .written))) l60) ∷ ‵ (froom (tyRef erased mut (pointee (R-i64x128 .written))) l59 0) ∷ ‵ (fdies (tyRef erased mut (pointee (R-i64x128 .written))) l59) ∷ ‵ (froom MHead′.mir l58 0) ∷ ‵ (fdies MHead′.mir l58) ∷ ‵ (froom MAnswerWords′.mir l57 0) ∷ ‵ (fdies MAnswerWords′.mir l57) ∷ ‵ (froom MAnswerWords′.mir l56 0) ∷ ‵ (fdies MAnswerWords′.mir l56) ∷ ‵ (froom (tyRef erased mut (pointee (R-u8x128 .written))) l55 0) ∷ ‵ (fdies (tyRef erased mut (pointee (R-u8x128 .written))) l55) ∷ ‵ (froom (tyRef erased mut (pointee (R-i32x128 .written))) l54 0) ∷ ‵ (fdies (tyRef erased mut (pointee (R-i32x128 .written))) l54) ∷ ‵ (froom (tyRef erased mut (pointee (R-i64x128 .written))) l53 0) ∷ ‵ (fdies (tyRef erased mut (pointee (R-i64x128 .written))) l53) ∷ ‵ (froom MHead′.mir l52 0) ∷ ‵ (fdies MHead′.mir l52) ∷ ‵ (froom tyPtr l51 0) ∷ ‵ (fdies tyPtr l51) ∷ ‵ (froom tyPtr l50 0) ∷ ‵ (fdies tyPtr l50) ∷ ‵ (froom (tyInt w64) l49 0) ∷ ‵ (fdies (tyInt w64) l49) ∷ ‵ (froom MAnswerWords′.mir l48 0) ∷ ‵ (fdies MAnswerWords′.mir l48) ∷ ‵ (froom tyBool l47 0) ∷ ‵ (fdies tyBool l47) ∷ ‵ (froom tyPtr l46 0) ∷ ‵ (fdies tyPtr l46) ∷ ‵ (froom tyPtr l45 0) ∷ ‵ (fdies tyPtr l45) ∷ ‵ (froom tyPtr l44 0) ∷ ‵ (fdies tyPtr l44) ∷ ‵ (froom tyPtr l43 0) ∷ ‵ (fdies tyPtr l43) ∷ ‵ (froom MMasterWords′.mir l42 0) ∷ ‵ (fdies MMasterWords′.mir l42) ∷ ‵ (froom tyPtr l41 0) ∷ ‵ (fdies tyPtr l41) ∷ ‵ (froom MAnswerWords′.mir l40 0) ∷ ‵ (fdies MAnswerWords′.mir l40) ∷ ‵ (froom (tyInt w64) l39 0) ∷ ‵ (fdies (tyInt w64) l39) ∷ ‵ (froom MAnswerWords′.mir l38 0) ∷ ‵ (fdies MAnswerWords′.mir l38) ∷ ‵ (froom tyBool l37 0) ∷ ‵ (fdies tyBool l37) ∷ ‵ (froom (sliceTy (tyRef erased mut (tyInt w8))) l36 0) ∷ ‵ (fdies (sliceTy (tyRef erased mut (tyInt w8))) l36) ∷ ‵ (froom (tyRef erased mut (tyInt w8)) l35 0) ∷ ‵ (fdies (tyRef erased mut (tyInt w8)) l35) ∷ ‵ (froom tyBool l34 0) ∷ ‵ (fdies tyBool l34) ∷ ‵ (froom MServo′.mir l33 0) ∷ ‵ (fdies MServo′.mir l33) ∷ ‵ (froom MServo′.mir l32 0) ∷ ‵ (fdies MServo′.mir l32) ∷ ‵ (froom tyBool l31 0) ∷ ‵ (fdies tyBool l31) ∷ ‵ (froom MTold′.mir l30 0) ∷ ‵ (fdies MTold′.mir l30) ∷ ‵ (froom MDelaysWords′.mir l29 0) ∷ ‵ (fdies MDelaysWords′.mir l29) ∷ ‵ (froom MHalvesWords′.mir l28 0) ∷ ‵ (fdies MHalvesWords′.mir l28) ∷ ‵ (froom MEmptied′.mir l27 0) ∷ ‵ (fdies MEmptied′.mir l27) ∷ ‵ (froom tyBool l26 0) ∷ ‵ (fdies tyBool l26) ∷ ‵ (froom MHeld′.mir l25 0) ∷ ‵ (fdies MHeld′.mir l25) ∷ ‵ (froom MMasterWords′.mir l24 0) ∷ ‵ (fdies MMasterWords′.mir l24) ∷ ‵ (froom (tyInt w64) l23 0) ∷ ‵ (fdies (tyInt w64) l23) ∷ ‵ (froom tyBool l22 0) ∷ ‵ (fdies tyBool l22) ∷ ‵ (froom MSeat′.mir l21 0) ∷ ‵ (fdies MSeat′.mir l21) ∷ ‵ (froom MLooked′.mir l20 0) ∷ ‵ (fdies MLooked′.mir l20) ∷ ‵ (froom MLooked′.mir l19 0) ∷ ‵ (fdies MLooked′.mir l19) ∷ ‵ (froom MLooked′.mir l18 0) ∷ ‵ (fdies MLooked′.mir l18) ∷ ‵ (froom MLooked′.mir l17 0) ∷ ‵ (fdies MLooked′.mir l17) ∷ ‵ (fat fullShare MLooked′.mir l16 0 w-35) ∷ ‵ (fdies MLooked′.mir l16) ∷ ‵ (fat fullShare (tyInt w32) l15 0 w-30) ∷ ‵ (fdies (tyInt w32) l15) ∷ ‵ (froom tyBool l14 0) ∷ ‵ (fdies tyBool l14) ∷ ‵ (fat fullShare MStateWords′.mir l13 0 u-28) ∷ ‵ (fdies MStateWords′.mir l13) ∷ ‵ (fat fullShare MSettingsWords′.mir l12 0 u-24) ∷ ‵ (fdies MSettingsWords′.mir l12) ∷ ‵ (fat fullShare MMessage′.mir l11 0 ((parts-Received p-4 w-3 is-7) .pu0)) ∷ ‵ (fdies MMessage′.mir l11) ∷ ‵ (froom tyBool l10 0) ∷ ‵ (fdies tyBool l10) ∷ ‵ (froom MReceived′.mir l9 0) ∷ ‵ (fdies MReceived′.mir l9) ∷ ‵ (fat fullShare (tyRef (named 5) mut (pointee (R-AnswerWords .written))) l8 0 (vptr b8 o8)) ∷ ‵ (fdies (tyRef (named 5) mut (pointee (R-AnswerWords .written))) l8) ∷ ‵ (froom MStamp′.mir l7 0) ∷ ‵ (fdies MStamp′.mir l7) ∷ ‵ (fat fullShare (tyInt w64) l6 0 u6) ∷ ‵ (fdies (tyInt w64) l6) ∷ ‵ (froom (sliceTy (tyRef (named 4) mut (tyInt w8))) l5 0) ∷ ‵ (fdies (sliceTy (tyRef (named 4) mut (tyInt w8))) l5) ∷ ‵ (fat fullShare (tyRef (named 3) mut (pointee (R-Watch .written))) l4 0 (vptr b4 o4)) ∷ ‵ (fdies (tyRef (named 3) mut (pointee (R-Watch .written))) l4) ∷ ‵ (fat fullShare (sliceTy (tyRef (named 2) mut (pointee (R-MasterWords .written)))) l3 0 (sliceVal (b3, o3) (length h3))) ∷ ‵ (fdies (sliceTy (tyRef (named 2) mut (pointee (R-MasterWords .written)))) l3) ∷ ‵ (fat fullShare (tyRef (named 1) mut (pointee (R-Servo .written))) l2 0 (vptr b2 o2)) ∷ ‵ (fdies (tyRef (named 1) mut (pointee (R-Servo .written))) l2) ∷ ‵ (fat fullShare (tyRef (named 0) mut (pointee (R-UnitWords .written))) l1 0 (vptr b1 o1)) ∷ ‵ (fdies (tyRef (named 0) mut (pointee (R-UnitWords .written))) l1) ∷ ‵ (froom tyUnit l0 0) ∷ ‵ (fdies tyUnit l0) ∷ []) (runs C Λ En i-15-5 qq)
+      from-15-5 : (qq : Kit-Post 𝓤 H) (ee : post 𝓤 H qq returnsᴼ ≡ atReturn 𝓤 H En Post returnsᴼ) (zs-8 : List ℕ) (len-9 : length zs-8 ≡ length h5) (p-4 : SReceived.Received) (w-3 : Val) (e-6 : (p-4 ≡ receivedBy (readOf h5)) × (zs-8 ≡ h5)) (is-7 : Is R-Received p-4 (w-3 ∷ [])) (left1 : Holds (not (p-4 .barred))) (good : Holds (not (not (eqb (length h3) 5)))) (u-24 : Val) (g-25 : Is R-SettingsWords (h1 .settings) (u-24 ∷ [])) (u-28 : Val) (g-29 : Is R-StateWords (h1 .state) (u-28 ∷ [])) (held2 : Holds (p-4 .announces)) (p-31 : ℕ) (w-30 : Val) (e-32 : p-31 ≡ intervalOf ((h1 .settings) .announce)) (is-33 : Is R-u32 p-31 (w-30 ∷ [])) (g-34 : Is R-MasterWords (el 0) (v-MasterWords (el 0))) (p-36 : SLooked.Looked) (w-35 : Val) (e-37 : p-36 ≡ lookedOf (p-4 .message) h6 p-31 (recordIn (el 0))) (is-38 : Is R-Looked p-36 (w-35 ∷ [])) → Sq W (‵ (fobs γ3 (codedHoleys R-MasterWords .code (heres R-MasterWords h3))) ∷ ‵ (fbor κ3 (Held R-MasterWords (length h3) b3 o3 γ3)) ∷ ‵ (flft κ3 q3) ∷ ‵ (fobs γ1 (R-UnitWords .coded .code h1)) ∷ ‵ (fbor κ1 (Body (mem R-UnitWords) b1 o1 γ1)) ∷ ‵ (flft κ1 q1) ∷ ‵ (MutSlice (named 4) κ5 R-u8 .own (x5 zs-8) ((sliceVal (b5, o5) (length h5)) ∷ [])) ∷ ‵ (flft κ5 q5) ∷ ‵ (flft κ8 q8) ∷ ‵ (flft κ4 q4) ∷ ‵ (flft κ2 q2) ∷ ‵ (ftrue) ∷ ‵ (fobs γ8 (R-AnswerWords .coded .code h8)) ∷ ‵ (fbor κ8 (Body (mem R-AnswerWords) b8 o8 γ8)) ∷ ‵ (R-Stamp .own h7 (u7 ∷ [])) ∷ ‵ (R-u64 .own h6 (u6 ∷ [])) ∷ ‵ (fobs γ4 (R-Watch .coded .code h4)) ∷ ‵ (fbor κ4 (Body (mem R-Watch) b4 o4 γ4)) ∷ ‵ (at-slice R-MasterWords (x3 h3) ((sliceVal (b3, o3) (length h3)) ∷ [])) ∷ ‵ (fobs γ2 (R-Servo .coded .code h2)) ∷ ‵ (fbor κ2 (Body (mem R-Servo) b2 o2 γ2)) ∷ ‵ (froom (tyRef erased mut (pointee (R-u8x128 .written))) l65 0) ∷ ‵ (fdies (tyRef erased mut (pointee (R-u8x128 .written))) l65) ∷ ‵ (froom (tyRef erased mut (pointee (R-i32x128 .written))) l64 0) ∷ ‵ (fdies (tyRef erased mut (pointee (R-i32x128 .written))) l64) ∷ ‵ (froom (tyRef erased mut (pointee (R-i64x128 .written))) l63 0) ∷ ‵ (fdies (tyRef erased mut (pointee (R-i64x128 .written))) l63) ∷ ‵ (froom MHead′.mir l62 0) ∷ ‵ (fdies MHead′.mir l62) ∷ ‵ (froom MAnswerWords′.mir l61 0) ∷ ‵ (fdies MAnswerWords′.mir l61) ∷ ‵ (froom MAnswerWords′.mir l60 0) ∷ ‵ (fdies MAnswerWords′.mir l60) ∷ ‵ (froom (tyRef erased mut (pointee (R-u8x128 .written))) l59 0) ∷ ‵ (fdies (tyRef erased mut (pointee (R-u8x128 .written))) l59) ∷ ‵ (froom (tyRef erased mut (pointee (R-i32x128 .written))) l58 0) ∷ ‵ (fdies (tyRef erased mut (pointee (R-i32x128 .written))) l58) ∷ ‵ (froom (tyRef erased mut (pointee (R-i64x128 .written))) l57 0) ∷ ‵ (fdies (tyRef erased mut (pointee (R-i64x128 .written))) l57) ∷ ‵ (froom MHead′.mir l56 0) ∷ ‵ (fdies MHead′.mir l56) ∷ ‵ (froom tyPtr l55 0) ∷ ‵ (fdies tyPtr l55) ∷ ‵ (froom tyPtr l54 0) ∷ ‵ (fdies tyPtr l54) ∷ ‵ (froom (tyInt w64) l53 0) ∷ ‵ (fdies (tyInt w64) l53) ∷ ‵ (froom MAnswerWords′.mir l52 0) ∷ ‵ (fdies MAnswerWords′.mir l52) ∷ ‵ (froom tyBool l51 0) ∷ ‵ (fdies tyBool l51) ∷ ‵ (froom tyPtr l50 0) ∷ ‵ (fdies tyPtr l50) ∷ ‵ (froom tyPtr l49 0) ∷ ‵ (fdies tyPtr l49) ∷ ‵ (froom tyPtr l48 0) ∷ ‵ (fdies tyPtr l48) ∷ ‵ (froom tyPtr l47 0) ∷ ‵ (fdies tyPtr l47) ∷ ‵ (froom MMasterWords′.mir l46 0) ∷ ‵ (fdies MMasterWords′.mir l46) ∷ ‵ (froom tyPtr l45 0) ∷ ‵ (fdies tyPtr l45) ∷ ‵ (froom MAnswerWords′.mir l44 0) ∷ ‵ (fdies MAnswerWords′.mir l44) ∷ ‵ (froom (tyInt w64) l43 0) ∷ ‵ (fdies (tyInt w64) l43) ∷ ‵ (froom MAnswerWords′.mir l42 0) ∷ ‵ (fdies MAnswerWords′.mir l42) ∷ ‵ (froom tyBool l41 0) ∷ ‵ (fdies tyBool l41) ∷ ‵ (froom (sliceTy (tyRef erased mut (tyInt w8))) l40 0) ∷ ‵ (fdies (sliceTy (tyRef erased mut (tyInt w8))) l40) ∷ ‵ (froom (tyRef erased mut (tyInt w8)) l39 0) ∷ ‵ (fdies (tyRef erased mut (tyInt w8)) l39) ∷ ‵ (froom (tyInt w16) l38 0) ∷ ‵ (fdies (tyInt w16) l38) ∷ ‵ (froom (tyInt w8) l37 0) ∷ ‵ (fdies (tyInt w8) l37) ∷ ‵ (froom MServo′.mir l36 0) ∷ ‵ (fdies MServo′.mir l36) ∷ ‵ (froom tyBool l35 0) ∷ ‵ (fdies tyBool l35) ∷ ‵ (froom tyBool l34 0) ∷ ‵ (fdies tyBool l34) ∷ ‵ (froom MAccepted′.mir l33 0) ∷ ‵ (fdies MAccepted′.mir l33) ∷ ‵ (froom MServo′.mir l32 0) ∷ ‵ (fdies MServo′.mir l32) ∷ ‵ (froom tyBool l31 0) ∷ ‵ (fdies tyBool l31) ∷ ‵ (froom MTold′.mir l30 0) ∷ ‵ (fdies MTold′.mir l30) ∷ ‵ (froom MDelaysWords′.mir l29 0) ∷ ‵ (fdies MDelaysWords′.mir l29) ∷ ‵ (froom MHalvesWords′.mir l28 0) ∷ ‵ (fdies MHalvesWords′.mir l28) ∷ ‵ (froom MEmptied′.mir l27 0) ∷ ‵ (fdies MEmptied′.mir l27) ∷ ‵ (froom tyBool l26 0) ∷ ‵ (fdies tyBool l26) ∷ ‵ (froom MHeld′.mir l25 0) ∷ ‵ (fdies MHeld′.mir l25) ∷ ‵ (froom MMasterWords′.mir l24 0) ∷ ‵ (fdies MMasterWords′.mir l24) ∷ ‵ (froom (tyInt w64) l23 0) ∷ ‵ (fdies (tyInt w64) l23) ∷ ‵ (froom tyBool l22 0) ∷ ‵ (fdies tyBool l22) ∷ ‵ (froom MSeat′.mir l21 0) ∷ ‵ (fdies MSeat′.mir l21) ∷ ‵ (froom MLooked′.mir l20 0) ∷ ‵ (fdies MLooked′.mir l20) ∷ ‵ (froom MLooked′.mir l19 0) ∷ ‵ (fdies MLooked′.mir l19) ∷ ‵ (froom MLooked′.mir l18 0) ∷ ‵ (fdies MLooked′.mir l18) ∷ ‵ (froom MLooked′.mir l17 0) ∷ ‵ (fdies MLooked′.mir l17) ∷ ‵ (fat fullShare MLooked′.mir l16 0 w-35) ∷ ‵ (fdies MLooked′.mir l16) ∷ ‵ (fat fullShare (tyInt w32) l15 0 w-30) ∷ ‵ (fdies (tyInt w32) l15) ∷ ‵ (froom tyBool l14 0) ∷ ‵ (fdies tyBool l14) ∷ ‵ (fat fullShare MStateWords′.mir l13 0 u-28) ∷ ‵ (fdies MStateWords′.mir l13) ∷ ‵ (fat fullShare MSettingsWords′.mir l12 0 u-24) ∷ ‵ (fdies MSettingsWords′.mir l12) ∷ ‵ (fat fullShare MMessage′.mir l11 0 ((parts-Received p-4 w-3 is-7) .pu0)) ∷ ‵ (fdies MMessage′.mir l11) ∷ ‵ (froom tyBool l10 0) ∷ ‵ (fdies tyBool l10) ∷ ‵ (froom MReceived′.mir l9 0) ∷ ‵ (fdies MReceived′.mir l9) ∷ ‵ (fat fullShare (tyRef (named 5) mut (pointee (R-AnswerWords .written))) l8 0 (vptr b8 o8)) ∷ ‵ (fdies (tyRef (named 5) mut (pointee (R-AnswerWords .written))) l8) ∷ ‵ (froom MStamp′.mir l7 0) ∷ ‵ (fdies MStamp′.mir l7) ∷ ‵ (fat fullShare (tyInt w64) l6 0 u6) ∷ ‵ (fdies (tyInt w64) l6) ∷ ‵ (froom (sliceTy (tyRef (named 4) mut (tyInt w8))) l5 0) ∷ ‵ (fdies (sliceTy (tyRef (named 4) mut (tyInt w8))) l5) ∷ ‵ (fat fullShare (tyRef (named 3) mut (pointee (R-Watch .written))) l4 0 (vptr b4 o4)) ∷ ‵ (fdies (tyRef (named 3) mut (pointee (R-Watch .written))) l4) ∷ ‵ (fat fullShare (sliceTy (tyRef (named 2) mut (pointee (R-MasterWords .written)))) l3 0 (sliceVal (b3, o3) (length h3))) ∷ ‵ (fdies (sliceTy (tyRef (named 2) mut (pointee (R-MasterWords .written)))) l3) ∷ ‵ (fat fullShare (tyRef (named 1) mut (pointee (R-Servo .written))) l2 0 (vptr b2 o2)) ∷ ‵ (fdies (tyRef (named 1) mut (pointee (R-Servo .written))) l2) ∷ ‵ (fat fullShare (tyRef (named 0) mut (pointee (R-UnitWords .written))) l1 0 (vptr b1 o1)) ∷ ‵ (fdies (tyRef (named 0) mut (pointee (R-UnitWords .written))) l1) ∷ ‵ (froom tyUnit l0 0) ∷ ‵ (fdies tyUnit l0) ∷ []) (runs C Λ En i-15-5 qq)
       from-15-5 qq ee zs-8 len-9 p-4 w-3 e-6 is-7 left1 good u-24 g-25 u-28 g-29 held2 p-31 w-30 e-32 is-33 g-34 p-36 w-35 e-37 is-38 =
           opens-slice ! tt R-MasterWords h3 b3 o3 $
-          assigns ! (bin ! (load ! (from ! (fld ! refl (stop !))) (look-in ! 138 (sub ! 0 refl (whole !)))) (lit ! tt) tt) (from ! (stop !)) (init ! 58 refl (tt, tt)) $
-          rewrite ! 58 (λ (p : ℕ). ‵ (fat fullShare tyPtr l43 0 (vptr b3 p))) (sym (place-is 96 o3 1)) refl $
+          assigns ! (bin ! (load ! (from ! (fld ! refl (stop !))) (look-in ! 146 (sub ! 0 refl (whole !)))) (lit ! tt) tt) (from ! (stop !)) (init ! 58 refl (tt, tt)) $
+          rewrite ! 58 (λ (p : ℕ). ‵ (fat fullShare tyPtr l47 0 (vptr b3 p))) (sym (place-is 96 o3 1)) refl $
           elem-out ! R-MasterWords (Is R-MasterWords) (shows 𝓤 H A R-MasterWords) v-MasterWords tells-MasterWords fullShare h3 1 noMaster b3 o3 (within 1 (length h3) (lit< tt) good) (λ g-39.
           assigns ! (of-opd ! (load ! (from ! (hop ! (look ! 60 refl) (stop !))) (look-raw ! 0 refl))) (from ! (stop !)) (init ! 62 refl (lawful-MasterWords 𝓤 H A W .typed (el 1) _ g-39 .0)) $
           elem-back ! R-MasterWords fullShare h3 1 noMaster (v-MasterWords (el 1)) b3 o3 (within 1 (length h3) (lit< tt) good) $
           use0 W (raw (C-look 𝓤 H A at-mem run .pre (to-look (el 1) (only (v-MasterWords (el 1))) (p-4 .message) ((parts-Received p-4 w-3 is-7) .pu0) h6 u6 p-31 w-30))) (goes-look (el 1) (only (v-MasterWords (el 1))) g-39 (p-4 .message) ((parts-Received p-4 w-3 is-7) .pu0) ((parts-Received p-4 w-3 is-7) .pg0) h6 u6 g6 p-31 w-30 is-33) $
-          calls-at ! fm (C-look 𝓤 H A at-mem run) known-look (to-look (el 1) (only (v-MasterWords (el 1))) (p-4 .message) ((parts-Received p-4 w-3 is-7) .pu0) h6 u6 p-31 w-30) (and-then ! (load ! (from ! (stop !)) (look ! 61 refl)) (and-then ! (load ! (from ! (stop !)) (look ! 123 refl)) (and-then ! (load ! (from ! (stop !)) (look ! 133 refl)) (and-then ! (load ! (from ! (stop !)) (look ! 115 refl)) (no-more !))))) (λ w-40.
+          calls-at ! fm (C-look 𝓤 H A at-mem run) known-look (to-look (el 1) (only (v-MasterWords (el 1))) (p-4 .message) ((parts-Received p-4 w-3 is-7) .pu0) h6 u6 p-31 w-30) (and-then ! (load ! (from ! (stop !)) (look ! 61 refl)) (and-then ! (load ! (from ! (stop !)) (look ! 131 refl)) (and-then ! (load ! (from ! (stop !)) (look ! 141 refl)) (and-then ! (load ! (from ! (stop !)) (look ! 123 refl)) (no-more !))))) (λ w-40.
           use1 W (later (some (λ (p-41 : SLooked.Looked). (‵ ftrue ⊛ ‵ (R-Looked .own p-41 (w-40 ∷ []))) ⊛ raw (ensured 𝓤 H A f-look.ended (f-look.clauses 𝓤 H A at-mem run) tt ((el 1), ((p-4 .message), (h6, (p-31, tt)))) tt p-41)))) (id⊢ 𝓤 _) $ await ! tt $
           pick ! (λ p-41.
           split ! $
@@ -2447,22 +2447,22 @@ module _ {M : Type 1} (𝓤 : URA M) (H : Heap 𝓤) (A : Atoms 𝓤) (W : Given
           drop ! $
           peeks ! R-Looked (Is R-Looked) (shows 𝓤 H A R-Looked) p-41 (w-40 ∷ []) (λ is-43.
           drop ! $
-          land ! (from ! (stop !)) (init ! 110 refl (lawful-Looked 𝓤 H A W .typed p-41 _ is-43 .0)) $
+          land ! (from ! (stop !)) (init ! 118 refl (lawful-Looked 𝓤 H A W .typed p-41 _ is-43 .0)) $
           closes-slice ! tt R-MasterWords h3 h3 refl b3 o3 $
           forget ! 57 refl $ forget ! 59 refl $
           from-15-8 qq ee zs-8 len-9 p-4 w-3 e-6 is-7 left1 good u-24 g-25 u-28 g-29 held2 p-31 w-30 e-32 is-33 g-34 p-36 w-35 e-37 is-38 g-39 p-41 w-40 e-42 is-43)))))
 
-      from-15-2 : (qq : Kit-Post 𝓤 H) (ee : post 𝓤 H qq returnsᴼ ≡ atReturn 𝓤 H En Post returnsᴼ) (zs-8 : List ℕ) (len-9 : length zs-8 ≡ length h5) (p-4 : SReceived.Received) (w-3 : Val) (e-6 : (p-4 ≡ receivedBy (readOf h5)) × (zs-8 ≡ h5)) (is-7 : Is R-Received p-4 (w-3 ∷ [])) (left1 : Holds (not (p-4 .barred))) (good : Holds (not (not (eqb (length h3) 5)))) (u-24 : Val) (g-25 : Is R-SettingsWords (h1 .settings) (u-24 ∷ [])) (u-28 : Val) (g-29 : Is R-StateWords (h1 .state) (u-28 ∷ [])) (held2 : Holds (p-4 .announces)) (p-31 : ℕ) (w-30 : Val) (e-32 : p-31 ≡ intervalOf ((h1 .settings) .announce)) (is-33 : Is R-u32 p-31 (w-30 ∷ [])) → Sq W (‵ (fobs γ1 (R-UnitWords .coded .code h1)) ∷ ‵ (fbor κ1 (Body (mem R-UnitWords) b1 o1 γ1)) ∷ ‵ (flft κ1 q1) ∷ ‵ (MutSlice (named 4) κ5 R-u8 .own (x5 zs-8) ((sliceVal (b5, o5) (length h5)) ∷ [])) ∷ ‵ (flft κ5 q5) ∷ ‵ (flft κ8 q8) ∷ ‵ (flft κ4 q4) ∷ ‵ (flft κ3 q3) ∷ ‵ (flft κ2 q2) ∷ ‵ (ftrue) ∷ ‵ (fobs γ8 (R-AnswerWords .coded .code h8)) ∷ ‵ (fbor κ8 (Body (mem R-AnswerWords) b8 o8 γ8)) ∷ ‵ (R-Stamp .own h7 (u7 ∷ [])) ∷ ‵ (R-u64 .own h6 (u6 ∷ [])) ∷ ‵ (fobs γ4 (R-Watch .coded .code h4)) ∷ ‵ (fbor κ4 (Body (mem R-Watch) b4 o4 γ4)) ∷ ‵ (fobs γ3 (codedHoleys R-MasterWords .code (heres R-MasterWords h3))) ∷ ‵ (fbor κ3 (Held R-MasterWords (length h3) b3 o3 γ3)) ∷ ‵ (at-slice R-MasterWords (x3 h3) ((sliceVal (b3, o3) (length h3)) ∷ [])) ∷ ‵ (fobs γ2 (R-Servo .coded .code h2)) ∷ ‵ (fbor κ2 (Body (mem R-Servo) b2 o2 γ2)) ∷ ‵ (froom (tyRef erased mut (pointee (R-u8x128 .written))) l61 0) ∷ ‵ (fdies (tyRef erased mut (pointee (R-u8x128 .written))) l61) ∷ ‵ (froom (tyRef erased mut (pointee (R-i32x128 .written))) l60 0) ∷ ‵ (fdies (tyRef erased mut (pointee (R-i32x128 .written))) l60) ∷ ‵ (froom (tyRef erased mut (pointee (R-i64x128 .written))) l59 0) ∷ ‵ (fdies (tyRef erased mut (pointee (R-i64x128 .written))) l59) ∷ ‵ (froom MHead′.mir l58 0) ∷ ‵ (fdies MHead′.mir l58) ∷ ‵ (froom MAnswerWords′.mir l57 0) ∷ ‵ (fdies MAnswerWords′.mir l57) ∷ ‵ (froom MAnswerWords′.mir l56 0) ∷ ‵ (fdies MAnswerWords′.mir l56) ∷ ‵ (froom (tyRef erased mut (pointee (R-u8x128 .written))) l55 0) ∷ ‵ (fdies (tyRef erased mut (pointee (R-u8x128 .written))) l55) ∷ ‵ (froom (tyRef erased mut (pointee (R-i32x128 .written))) l54 0) ∷ ‵ (fdies (tyRef erased mut (pointee (R-i32x128 .written))) l54) ∷ ‵ (froom (tyRef erased mut (pointee (R-i64x128 .written))) l53 0) ∷ ‵ (fdies (tyRef erased mut (pointee (R-i64x128 .written))) l53) ∷ ‵ (froom MHead′.mir l52 0) ∷ ‵ (fdies MHead′.mir l52) ∷ ‵ (froom tyPtr l51 0) ∷ ‵ (fdies tyPtr l51) ∷ ‵ (froom tyPtr l50 0) ∷ ‵ (fdies tyPtr l50) ∷ ‵ (froom (tyInt w64) l49 0) ∷ ‵ (fdies (tyInt w64) l49) ∷ ‵ (froom MAnswerWords′.mir l48 0) ∷ ‵ (fdies MAnswerWords′.mir l48) ∷ ‵ (froom tyBool l47 0) ∷ ‵ (fdies tyBool l47) ∷ ‵ (froom tyPtr l46 0) ∷ ‵ (fdies tyPtr l46) ∷ ‵ (froom tyPtr l45 0) ∷ ‵ (fdies tyPtr l45) ∷ ‵ (froom tyPtr l44 0) ∷ ‵ (fdies tyPtr l44) ∷ ‵ (froom tyPtr l43 0) ∷ ‵ (fdies tyPtr l43) ∷ ‵ (froom MMasterWords′.mir l42 0) ∷ ‵ (fdies MMasterWords′.mir l42) ∷ ‵ (froom tyPtr l41 0) ∷ ‵ (fdies tyPtr l41) ∷ ‵ (froom MAnswerWords′.mir l40 0) ∷ ‵ (fdies MAnswerWords′.mir l40) ∷ ‵ (froom (tyInt w64) l39 0) ∷ ‵ (fdies (tyInt w64) l39) ∷ ‵ (froom MAnswerWords′.mir l38 0) ∷ ‵ (fdies MAnswerWords′.mir l38) ∷ ‵ (froom tyBool l37 0) ∷ ‵ (fdies tyBool l37) ∷ ‵ (froom (sliceTy (tyRef erased mut (tyInt w8))) l36 0) ∷ ‵ (fdies (sliceTy (tyRef erased mut (tyInt w8))) l36) ∷ ‵ (froom (tyRef erased mut (tyInt w8)) l35 0) ∷ ‵ (fdies (tyRef erased mut (tyInt w8)) l35) ∷ ‵ (froom tyBool l34 0) ∷ ‵ (fdies tyBool l34) ∷ ‵ (froom MServo′.mir l33 0) ∷ ‵ (fdies MServo′.mir l33) ∷ ‵ (froom MServo′.mir l32 0) ∷ ‵ (fdies MServo′.mir l32) ∷ ‵ (froom tyBool l31 0) ∷ ‵ (fdies tyBool l31) ∷ ‵ (froom MTold′.mir l30 0) ∷ ‵ (fdies MTold′.mir l30) ∷ ‵ (froom MDelaysWords′.mir l29 0) ∷ ‵ (fdies MDelaysWords′.mir l29) ∷ ‵ (froom MHalvesWords′.mir l28 0) ∷ ‵ (fdies MHalvesWords′.mir l28) ∷ ‵ (froom MEmptied′.mir l27 0) ∷ ‵ (fdies MEmptied′.mir l27) ∷ ‵ (froom tyBool l26 0) ∷ ‵ (fdies tyBool l26) ∷ ‵ (froom MHeld′.mir l25 0) ∷ ‵ (fdies MHeld′.mir l25) ∷ ‵ (froom MMasterWords′.mir l24 0) ∷ ‵ (fdies MMasterWords′.mir l24) ∷ ‵ (froom (tyInt w64) l23 0) ∷ ‵ (fdies (tyInt w64) l23) ∷ ‵ (froom tyBool l22 0) ∷ ‵ (fdies tyBool l22) ∷ ‵ (froom MSeat′.mir l21 0) ∷ ‵ (fdies MSeat′.mir l21) ∷ ‵ (froom MLooked′.mir l20 0) ∷ ‵ (fdies MLooked′.mir l20) ∷ ‵ (froom MLooked′.mir l19 0) ∷ ‵ (fdies MLooked′.mir l19) ∷ ‵ (froom MLooked′.mir l18 0) ∷ ‵ (fdies MLooked′.mir l18) ∷ ‵ (froom MLooked′.mir l17 0) ∷ ‵ (fdies MLooked′.mir l17) ∷ ‵ (froom MLooked′.mir l16 0) ∷ ‵ (fdies MLooked′.mir l16) ∷ ‵ (fat fullShare (tyInt w32) l15 0 w-30) ∷ ‵ (fdies (tyInt w32) l15) ∷ ‵ (froom tyBool l14 0) ∷ ‵ (fdies tyBool l14) ∷ ‵ (fat fullShare MStateWords′.mir l13 0 u-28) ∷ ‵ (fdies MStateWords′.mir l13) ∷ ‵ (fat fullShare MSettingsWords′.mir l12 0 u-24) ∷ ‵ (fdies MSettingsWords′.mir l12) ∷ ‵ (fat fullShare MMessage′.mir l11 0 ((parts-Received p-4 w-3 is-7) .pu0)) ∷ ‵ (fdies MMessage′.mir l11) ∷ ‵ (froom tyBool l10 0) ∷ ‵ (fdies tyBool l10) ∷ ‵ (froom MReceived′.mir l9 0) ∷ ‵ (fdies MReceived′.mir l9) ∷ ‵ (fat fullShare (tyRef (named 5) mut (pointee (R-AnswerWords .written))) l8 0 (vptr b8 o8)) ∷ ‵ (fdies (tyRef (named 5) mut (pointee (R-AnswerWords .written))) l8) ∷ ‵ (froom MStamp′.mir l7 0) ∷ ‵ (fdies MStamp′.mir l7) ∷ ‵ (fat fullShare (tyInt w64) l6 0 u6) ∷ ‵ (fdies (tyInt w64) l6) ∷ ‵ (froom (sliceTy (tyRef (named 4) mut (tyInt w8))) l5 0) ∷ ‵ (fdies (sliceTy (tyRef (named 4) mut (tyInt w8))) l5) ∷ ‵ (fat fullShare (tyRef (named 3) mut (pointee (R-Watch .written))) l4 0 (vptr b4 o4)) ∷ ‵ (fdies (tyRef (named 3) mut (pointee (R-Watch .written))) l4) ∷ ‵ (fat fullShare (sliceTy (tyRef (named 2) mut (pointee (R-MasterWords .written)))) l3 0 (sliceVal (b3, o3) (length h3))) ∷ ‵ (fdies (sliceTy (tyRef (named 2) mut (pointee (R-MasterWords .written)))) l3) ∷ ‵ (fat fullShare (tyRef (named 1) mut (pointee (R-Servo .written))) l2 0 (vptr b2 o2)) ∷ ‵ (fdies (tyRef (named 1) mut (pointee (R-Servo .written))) l2) ∷ ‵ (fat fullShare (tyRef (named 0) mut (pointee (R-UnitWords .written))) l1 0 (vptr b1 o1)) ∷ ‵ (fdies (tyRef (named 0) mut (pointee (R-UnitWords .written))) l1) ∷ ‵ (froom tyUnit l0 0) ∷ ‵ (fdies tyUnit l0) ∷ []) (runs C Λ En i-15-2 qq)
+      from-15-2 : (qq : Kit-Post 𝓤 H) (ee : post 𝓤 H qq returnsᴼ ≡ atReturn 𝓤 H En Post returnsᴼ) (zs-8 : List ℕ) (len-9 : length zs-8 ≡ length h5) (p-4 : SReceived.Received) (w-3 : Val) (e-6 : (p-4 ≡ receivedBy (readOf h5)) × (zs-8 ≡ h5)) (is-7 : Is R-Received p-4 (w-3 ∷ [])) (left1 : Holds (not (p-4 .barred))) (good : Holds (not (not (eqb (length h3) 5)))) (u-24 : Val) (g-25 : Is R-SettingsWords (h1 .settings) (u-24 ∷ [])) (u-28 : Val) (g-29 : Is R-StateWords (h1 .state) (u-28 ∷ [])) (held2 : Holds (p-4 .announces)) (p-31 : ℕ) (w-30 : Val) (e-32 : p-31 ≡ intervalOf ((h1 .settings) .announce)) (is-33 : Is R-u32 p-31 (w-30 ∷ [])) → Sq W (‵ (fobs γ1 (R-UnitWords .coded .code h1)) ∷ ‵ (fbor κ1 (Body (mem R-UnitWords) b1 o1 γ1)) ∷ ‵ (flft κ1 q1) ∷ ‵ (MutSlice (named 4) κ5 R-u8 .own (x5 zs-8) ((sliceVal (b5, o5) (length h5)) ∷ [])) ∷ ‵ (flft κ5 q5) ∷ ‵ (flft κ8 q8) ∷ ‵ (flft κ4 q4) ∷ ‵ (flft κ3 q3) ∷ ‵ (flft κ2 q2) ∷ ‵ (ftrue) ∷ ‵ (fobs γ8 (R-AnswerWords .coded .code h8)) ∷ ‵ (fbor κ8 (Body (mem R-AnswerWords) b8 o8 γ8)) ∷ ‵ (R-Stamp .own h7 (u7 ∷ [])) ∷ ‵ (R-u64 .own h6 (u6 ∷ [])) ∷ ‵ (fobs γ4 (R-Watch .coded .code h4)) ∷ ‵ (fbor κ4 (Body (mem R-Watch) b4 o4 γ4)) ∷ ‵ (fobs γ3 (codedHoleys R-MasterWords .code (heres R-MasterWords h3))) ∷ ‵ (fbor κ3 (Held R-MasterWords (length h3) b3 o3 γ3)) ∷ ‵ (at-slice R-MasterWords (x3 h3) ((sliceVal (b3, o3) (length h3)) ∷ [])) ∷ ‵ (fobs γ2 (R-Servo .coded .code h2)) ∷ ‵ (fbor κ2 (Body (mem R-Servo) b2 o2 γ2)) ∷ ‵ (froom (tyRef erased mut (pointee (R-u8x128 .written))) l65 0) ∷ ‵ (fdies (tyRef erased mut (pointee (R-u8x128 .written))) l65) ∷ ‵ (froom (tyRef erased mut (pointee (R-i32x128 .written))) l64 0) ∷ ‵ (fdies (tyRef erased mut (pointee (R-i32x128 .written))) l64) ∷ ‵ (froom (tyRef erased mut (pointee (R-i64x128 .written))) l63 0) ∷ ‵ (fdies (tyRef erased mut (pointee (R-i64x128 .written))) l63) ∷ ‵ (froom MHead′.mir l62 0) ∷ ‵ (fdies MHead′.mir l62) ∷ ‵ (froom MAnswerWords′.mir l61 0) ∷ ‵ (fdies MAnswerWords′.mir l61) ∷ ‵ (froom MAnswerWords′.mir l60 0) ∷ ‵ (fdies MAnswerWords′.mir l60) ∷ ‵ (froom (tyRef erased mut (pointee (R-u8x128 .written))) l59 0) ∷ ‵ (fdies (tyRef erased mut (pointee (R-u8x128 .written))) l59) ∷ ‵ (froom (tyRef erased mut (pointee (R-i32x128 .written))) l58 0) ∷ ‵ (fdies (tyRef erased mut (pointee (R-i32x128 .written))) l58) ∷ ‵ (froom (tyRef erased mut (pointee (R-i64x128 .written))) l57 0) ∷ ‵ (fdies (tyRef erased mut (pointee (R-i64x128 .written))) l57) ∷ ‵ (froom MHead′.mir l56 0) ∷ ‵ (fdies MHead′.mir l56) ∷ ‵ (froom tyPtr l55 0) ∷ ‵ (fdies tyPtr l55) ∷ ‵ (froom tyPtr l54 0) ∷ ‵ (fdies tyPtr l54) ∷ ‵ (froom (tyInt w64) l53 0) ∷ ‵ (fdies (tyInt w64) l53) ∷ ‵ (froom MAnswerWords′.mir l52 0) ∷ ‵ (fdies MAnswerWords′.mir l52) ∷ ‵ (froom tyBool l51 0) ∷ ‵ (fdies tyBool l51) ∷ ‵ (froom tyPtr l50 0) ∷ ‵ (fdies tyPtr l50) ∷ ‵ (froom tyPtr l49 0) ∷ ‵ (fdies tyPtr l49) ∷ ‵ (froom tyPtr l48 0) ∷ ‵ (fdies tyPtr l48) ∷ ‵ (froom tyPtr l47 0) ∷ ‵ (fdies tyPtr l47) ∷ ‵ (froom MMasterWords′.mir l46 0) ∷ ‵ (fdies MMasterWords′.mir l46) ∷ ‵ (froom tyPtr l45 0) ∷ ‵ (fdies tyPtr l45) ∷ ‵ (froom MAnswerWords′.mir l44 0) ∷ ‵ (fdies MAnswerWords′.mir l44) ∷ ‵ (froom (tyInt w64) l43 0) ∷ ‵ (fdies (tyInt w64) l43) ∷ ‵ (froom MAnswerWords′.mir l42 0) ∷ ‵ (fdies MAnswerWords′.mir l42) ∷ ‵ (froom tyBool l41 0) ∷ ‵ (fdies tyBool l41) ∷ ‵ (froom (sliceTy (tyRef erased mut (tyInt w8))) l40 0) ∷ ‵ (fdies (sliceTy (tyRef erased mut (tyInt w8))) l40) ∷ ‵ (froom (tyRef erased mut (tyInt w8)) l39 0) ∷ ‵ (fdies (tyRef erased mut (tyInt w8)) l39) ∷ ‵ (froom (tyInt w16) l38 0) ∷ ‵ (fdies (tyInt w16) l38) ∷ ‵ (froom (tyInt w8) l37 0) ∷ ‵ (fdies (tyInt w8) l37) ∷ ‵ (froom MServo′.mir l36 0) ∷ ‵ (fdies MServo′.mir l36) ∷ ‵ (froom tyBool l35 0) ∷ ‵ (fdies tyBool l35) ∷ ‵ (froom tyBool l34 0) ∷ ‵ (fdies tyBool l34) ∷ ‵ (froom MAccepted′.mir l33 0) ∷ ‵ (fdies MAccepted′.mir l33) ∷ ‵ (froom MServo′.mir l32 0) ∷ ‵ (fdies MServo′.mir l32) ∷ ‵ (froom tyBool l31 0) ∷ ‵ (fdies tyBool l31) ∷ ‵ (froom MTold′.mir l30 0) ∷ ‵ (fdies MTold′.mir l30) ∷ ‵ (froom MDelaysWords′.mir l29 0) ∷ ‵ (fdies MDelaysWords′.mir l29) ∷ ‵ (froom MHalvesWords′.mir l28 0) ∷ ‵ (fdies MHalvesWords′.mir l28) ∷ ‵ (froom MEmptied′.mir l27 0) ∷ ‵ (fdies MEmptied′.mir l27) ∷ ‵ (froom tyBool l26 0) ∷ ‵ (fdies tyBool l26) ∷ ‵ (froom MHeld′.mir l25 0) ∷ ‵ (fdies MHeld′.mir l25) ∷ ‵ (froom MMasterWords′.mir l24 0) ∷ ‵ (fdies MMasterWords′.mir l24) ∷ ‵ (froom (tyInt w64) l23 0) ∷ ‵ (fdies (tyInt w64) l23) ∷ ‵ (froom tyBool l22 0) ∷ ‵ (fdies tyBool l22) ∷ ‵ (froom MSeat′.mir l21 0) ∷ ‵ (fdies MSeat′.mir l21) ∷ ‵ (froom MLooked′.mir l20 0) ∷ ‵ (fdies MLooked′.mir l20) ∷ ‵ (froom MLooked′.mir l19 0) ∷ ‵ (fdies MLooked′.mir l19) ∷ ‵ (froom MLooked′.mir l18 0) ∷ ‵ (fdies MLooked′.mir l18) ∷ ‵ (froom MLooked′.mir l17 0) ∷ ‵ (fdies MLooked′.mir l17) ∷ ‵ (froom MLooked′.mir l16 0) ∷ ‵ (fdies MLooked′.mir l16) ∷ ‵ (fat fullShare (tyInt w32) l15 0 w-30) ∷ ‵ (fdies (tyInt w32) l15) ∷ ‵ (froom tyBool l14 0) ∷ ‵ (fdies tyBool l14) ∷ ‵ (fat fullShare MStateWords′.mir l13 0 u-28) ∷ ‵ (fdies MStateWords′.mir l13) ∷ ‵ (fat fullShare MSettingsWords′.mir l12 0 u-24) ∷ ‵ (fdies MSettingsWords′.mir l12) ∷ ‵ (fat fullShare MMessage′.mir l11 0 ((parts-Received p-4 w-3 is-7) .pu0)) ∷ ‵ (fdies MMessage′.mir l11) ∷ ‵ (froom tyBool l10 0) ∷ ‵ (fdies tyBool l10) ∷ ‵ (froom MReceived′.mir l9 0) ∷ ‵ (fdies MReceived′.mir l9) ∷ ‵ (fat fullShare (tyRef (named 5) mut (pointee (R-AnswerWords .written))) l8 0 (vptr b8 o8)) ∷ ‵ (fdies (tyRef (named 5) mut (pointee (R-AnswerWords .written))) l8) ∷ ‵ (froom MStamp′.mir l7 0) ∷ ‵ (fdies MStamp′.mir l7) ∷ ‵ (fat fullShare (tyInt w64) l6 0 u6) ∷ ‵ (fdies (tyInt w64) l6) ∷ ‵ (froom (sliceTy (tyRef (named 4) mut (tyInt w8))) l5 0) ∷ ‵ (fdies (sliceTy (tyRef (named 4) mut (tyInt w8))) l5) ∷ ‵ (fat fullShare (tyRef (named 3) mut (pointee (R-Watch .written))) l4 0 (vptr b4 o4)) ∷ ‵ (fdies (tyRef (named 3) mut (pointee (R-Watch .written))) l4) ∷ ‵ (fat fullShare (sliceTy (tyRef (named 2) mut (pointee (R-MasterWords .written)))) l3 0 (sliceVal (b3, o3) (length h3))) ∷ ‵ (fdies (sliceTy (tyRef (named 2) mut (pointee (R-MasterWords .written)))) l3) ∷ ‵ (fat fullShare (tyRef (named 1) mut (pointee (R-Servo .written))) l2 0 (vptr b2 o2)) ∷ ‵ (fdies (tyRef (named 1) mut (pointee (R-Servo .written))) l2) ∷ ‵ (fat fullShare (tyRef (named 0) mut (pointee (R-UnitWords .written))) l1 0 (vptr b1 o1)) ∷ ‵ (fdies (tyRef (named 0) mut (pointee (R-UnitWords .written))) l1) ∷ ‵ (froom tyUnit l0 0) ∷ ‵ (fdies tyUnit l0) ∷ []) (runs C Λ En i-15-2 qq)
       from-15-2 qq ee zs-8 len-9 p-4 w-3 e-6 is-7 left1 good u-24 g-25 u-28 g-29 held2 p-31 w-30 e-32 is-33 =
           move ! (16 ∷ 17 ∷ 7 ∷ []) $
           opens-slice ! tt R-MasterWords h3 b3 o3 $
-          assigns ! (bin ! (load ! (from ! (fld ! refl (stop !))) (look-in ! 138 (sub ! 0 refl (whole !)))) (lit ! tt) tt) (from ! (stop !)) (init ! 62 refl (tt, tt)) $
-          rewrite ! 62 (λ (p : ℕ). ‵ (fat fullShare tyPtr l41 0 (vptr b3 p))) (sym (place-is 96 o3 0)) refl $
+          assigns ! (bin ! (load ! (from ! (fld ! refl (stop !))) (look-in ! 146 (sub ! 0 refl (whole !)))) (lit ! tt) tt) (from ! (stop !)) (init ! 62 refl (tt, tt)) $
+          rewrite ! 62 (λ (p : ℕ). ‵ (fat fullShare tyPtr l45 0 (vptr b3 p))) (sym (place-is 96 o3 0)) refl $
           elem-out ! R-MasterWords (Is R-MasterWords) (shows 𝓤 H A R-MasterWords) v-MasterWords tells-MasterWords fullShare h3 0 noMaster b3 o3 (within 0 (length h3) (lit< tt) good) (λ g-34.
           assigns ! (of-opd ! (load ! (from ! (hop ! (look ! 64 refl) (stop !))) (look-raw ! 0 refl))) (from ! (stop !)) (init ! 62 refl (lawful-MasterWords 𝓤 H A W .typed (el 0) _ g-34 .0)) $
           elem-back ! R-MasterWords fullShare h3 0 noMaster (v-MasterWords (el 0)) b3 o3 (within 0 (length h3) (lit< tt) good) $
           use0 W (raw (C-look 𝓤 H A at-mem run .pre (to-look (el 0) (only (v-MasterWords (el 0))) (p-4 .message) ((parts-Received p-4 w-3 is-7) .pu0) h6 u6 p-31 w-30))) (goes-look (el 0) (only (v-MasterWords (el 0))) g-34 (p-4 .message) ((parts-Received p-4 w-3 is-7) .pu0) ((parts-Received p-4 w-3 is-7) .pg0) h6 u6 g6 p-31 w-30 is-33) $
-          calls-at ! fm (C-look 𝓤 H A at-mem run) known-look (to-look (el 0) (only (v-MasterWords (el 0))) (p-4 .message) ((parts-Received p-4 w-3 is-7) .pu0) h6 u6 p-31 w-30) (and-then ! (load ! (from ! (stop !)) (look ! 61 refl)) (and-then ! (load ! (from ! (stop !)) (look ! 123 refl)) (and-then ! (load ! (from ! (stop !)) (look ! 133 refl)) (and-then ! (load ! (from ! (stop !)) (look ! 115 refl)) (no-more !))))) (λ w-35.
+          calls-at ! fm (C-look 𝓤 H A at-mem run) known-look (to-look (el 0) (only (v-MasterWords (el 0))) (p-4 .message) ((parts-Received p-4 w-3 is-7) .pu0) h6 u6 p-31 w-30) (and-then ! (load ! (from ! (stop !)) (look ! 61 refl)) (and-then ! (load ! (from ! (stop !)) (look ! 131 refl)) (and-then ! (load ! (from ! (stop !)) (look ! 141 refl)) (and-then ! (load ! (from ! (stop !)) (look ! 123 refl)) (no-more !))))) (λ w-35.
           use1 W (later (some (λ (p-36 : SLooked.Looked). (‵ ftrue ⊛ ‵ (R-Looked .own p-36 (w-35 ∷ []))) ⊛ raw (ensured 𝓤 H A f-look.ended (f-look.clauses 𝓤 H A at-mem run) tt ((el 0), ((p-4 .message), (h6, (p-31, tt)))) tt p-36)))) (id⊢ 𝓤 _) $ await ! tt $
           pick ! (λ p-36.
           split ! $
@@ -2473,15 +2473,15 @@ module _ {M : Type 1} (𝓤 : URA M) (H : Heap 𝓤) (A : Atoms 𝓤) (W : Given
           drop ! $
           peeks ! R-Looked (Is R-Looked) (shows 𝓤 H A R-Looked) p-36 (w-35 ∷ []) (λ is-38.
           drop ! $
-          land ! (from ! (stop !)) (init ! 112 refl (lawful-Looked 𝓤 H A W .typed p-36 _ is-38 .0)) $
+          land ! (from ! (stop !)) (init ! 120 refl (lawful-Looked 𝓤 H A W .typed p-36 _ is-38 .0)) $
           closes-slice ! tt R-MasterWords h3 h3 refl b3 o3 $
           forget ! 61 refl $ forget ! 59 refl $
           from-15-5 qq ee zs-8 len-9 p-4 w-3 e-6 is-7 left1 good u-24 g-25 u-28 g-29 held2 p-31 w-30 e-32 is-33 g-34 p-36 w-35 e-37 is-38)))))
 
-      from-15-1 : (qq : Kit-Post 𝓤 H) (ee : post 𝓤 H qq returnsᴼ ≡ atReturn 𝓤 H En Post returnsᴼ) (zs-8 : List ℕ) (len-9 : length zs-8 ≡ length h5) (p-4 : SReceived.Received) (w-3 : Val) (e-6 : (p-4 ≡ receivedBy (readOf h5)) × (zs-8 ≡ h5)) (is-7 : Is R-Received p-4 (w-3 ∷ [])) (left1 : Holds (not (p-4 .barred))) (good : Holds (not (not (eqb (length h3) 5)))) (u-24 : Val) (g-25 : Is R-SettingsWords (h1 .settings) (u-24 ∷ [])) (u-28 : Val) (g-29 : Is R-StateWords (h1 .state) (u-28 ∷ [])) (held2 : Holds (p-4 .announces)) → Sq W (‵ (fobs γ1 (R-UnitWords .coded .code h1)) ∷ ‵ (fbor κ1 (Body (mem R-UnitWords) b1 o1 γ1)) ∷ ‵ (flft κ1 q1) ∷ ‵ (MutSlice (named 4) κ5 R-u8 .own (x5 zs-8) ((sliceVal (b5, o5) (length h5)) ∷ [])) ∷ ‵ (flft κ5 q5) ∷ ‵ (flft κ8 q8) ∷ ‵ (flft κ4 q4) ∷ ‵ (flft κ3 q3) ∷ ‵ (flft κ2 q2) ∷ ‵ (ftrue) ∷ ‵ (fobs γ8 (R-AnswerWords .coded .code h8)) ∷ ‵ (fbor κ8 (Body (mem R-AnswerWords) b8 o8 γ8)) ∷ ‵ (R-Stamp .own h7 (u7 ∷ [])) ∷ ‵ (R-u64 .own h6 (u6 ∷ [])) ∷ ‵ (fobs γ4 (R-Watch .coded .code h4)) ∷ ‵ (fbor κ4 (Body (mem R-Watch) b4 o4 γ4)) ∷ ‵ (fobs γ3 (codedHoleys R-MasterWords .code (heres R-MasterWords h3))) ∷ ‵ (fbor κ3 (Held R-MasterWords (length h3) b3 o3 γ3)) ∷ ‵ (at-slice R-MasterWords (x3 h3) ((sliceVal (b3, o3) (length h3)) ∷ [])) ∷ ‵ (fobs γ2 (R-Servo .coded .code h2)) ∷ ‵ (fbor κ2 (Body (mem R-Servo) b2 o2 γ2)) ∷ ‵ (froom (tyRef erased mut (pointee (R-u8x128 .written))) l61 0) ∷ ‵ (fdies (tyRef erased mut (pointee (R-u8x128 .written))) l61) ∷ ‵ (froom (tyRef erased mut (pointee (R-i32x128 .written))) l60 0) ∷ ‵ (fdies (tyRef erased mut (pointee (R-i32x128 .written))) l60) ∷ ‵ (froom (tyRef erased mut (pointee (R-i64x128 .written))) l59 0) ∷ ‵ (fdies (tyRef erased mut (pointee (R-i64x128 .written))) l59) ∷ ‵ (froom MHead′.mir l58 0) ∷ ‵ (fdies MHead′.mir l58) ∷ ‵ (froom MAnswerWords′.mir l57 0) ∷ ‵ (fdies MAnswerWords′.mir l57) ∷ ‵ (froom MAnswerWords′.mir l56 0) ∷ ‵ (fdies MAnswerWords′.mir l56) ∷ ‵ (froom (tyRef erased mut (pointee (R-u8x128 .written))) l55 0) ∷ ‵ (fdies (tyRef erased mut (pointee (R-u8x128 .written))) l55) ∷ ‵ (froom (tyRef erased mut (pointee (R-i32x128 .written))) l54 0) ∷ ‵ (fdies (tyRef erased mut (pointee (R-i32x128 .written))) l54) ∷ ‵ (froom (tyRef erased mut (pointee (R-i64x128 .written))) l53 0) ∷ ‵ (fdies (tyRef erased mut (pointee (R-i64x128 .written))) l53) ∷ ‵ (froom MHead′.mir l52 0) ∷ ‵ (fdies MHead′.mir l52) ∷ ‵ (froom tyPtr l51 0) ∷ ‵ (fdies tyPtr l51) ∷ ‵ (froom tyPtr l50 0) ∷ ‵ (fdies tyPtr l50) ∷ ‵ (froom (tyInt w64) l49 0) ∷ ‵ (fdies (tyInt w64) l49) ∷ ‵ (froom MAnswerWords′.mir l48 0) ∷ ‵ (fdies MAnswerWords′.mir l48) ∷ ‵ (froom tyBool l47 0) ∷ ‵ (fdies tyBool l47) ∷ ‵ (froom tyPtr l46 0) ∷ ‵ (fdies tyPtr l46) ∷ ‵ (froom tyPtr l45 0) ∷ ‵ (fdies tyPtr l45) ∷ ‵ (froom tyPtr l44 0) ∷ ‵ (fdies tyPtr l44) ∷ ‵ (froom tyPtr l43 0) ∷ ‵ (fdies tyPtr l43) ∷ ‵ (froom MMasterWords′.mir l42 0) ∷ ‵ (fdies MMasterWords′.mir l42) ∷ ‵ (froom tyPtr l41 0) ∷ ‵ (fdies tyPtr l41) ∷ ‵ (froom MAnswerWords′.mir l40 0) ∷ ‵ (fdies MAnswerWords′.mir l40) ∷ ‵ (froom (tyInt w64) l39 0) ∷ ‵ (fdies (tyInt w64) l39) ∷ ‵ (froom MAnswerWords′.mir l38 0) ∷ ‵ (fdies MAnswerWords′.mir l38) ∷ ‵ (froom tyBool l37 0) ∷ ‵ (fdies tyBool l37) ∷ ‵ (froom (sliceTy (tyRef erased mut (tyInt w8))) l36 0) ∷ ‵ (fdies (sliceTy (tyRef erased mut (tyInt w8))) l36) ∷ ‵ (froom (tyRef erased mut (tyInt w8)) l35 0) ∷ ‵ (fdies (tyRef erased mut (tyInt w8)) l35) ∷ ‵ (froom tyBool l34 0) ∷ ‵ (fdies tyBool l34) ∷ ‵ (froom MServo′.mir l33 0) ∷ ‵ (fdies MServo′.mir l33) ∷ ‵ (froom MServo′.mir l32 0) ∷ ‵ (fdies MServo′.mir l32) ∷ ‵ (froom tyBool l31 0) ∷ ‵ (fdies tyBool l31) ∷ ‵ (froom MTold′.mir l30 0) ∷ ‵ (fdies MTold′.mir l30) ∷ ‵ (froom MDelaysWords′.mir l29 0) ∷ ‵ (fdies MDelaysWords′.mir l29) ∷ ‵ (froom MHalvesWords′.mir l28 0) ∷ ‵ (fdies MHalvesWords′.mir l28) ∷ ‵ (froom MEmptied′.mir l27 0) ∷ ‵ (fdies MEmptied′.mir l27) ∷ ‵ (froom tyBool l26 0) ∷ ‵ (fdies tyBool l26) ∷ ‵ (froom MHeld′.mir l25 0) ∷ ‵ (fdies MHeld′.mir l25) ∷ ‵ (froom MMasterWords′.mir l24 0) ∷ ‵ (fdies MMasterWords′.mir l24) ∷ ‵ (froom (tyInt w64) l23 0) ∷ ‵ (fdies (tyInt w64) l23) ∷ ‵ (froom tyBool l22 0) ∷ ‵ (fdies tyBool l22) ∷ ‵ (froom MSeat′.mir l21 0) ∷ ‵ (fdies MSeat′.mir l21) ∷ ‵ (froom MLooked′.mir l20 0) ∷ ‵ (fdies MLooked′.mir l20) ∷ ‵ (froom MLooked′.mir l19 0) ∷ ‵ (fdies MLooked′.mir l19) ∷ ‵ (froom MLooked′.mir l18 0) ∷ ‵ (fdies MLooked′.mir l18) ∷ ‵ (froom MLooked′.mir l17 0) ∷ ‵ (fdies MLooked′.mir l17) ∷ ‵ (froom MLooked′.mir l16 0) ∷ ‵ (fdies MLooked′.mir l16) ∷ ‵ (froom (tyInt w32) l15 0) ∷ ‵ (fdies (tyInt w32) l15) ∷ ‵ (froom tyBool l14 0) ∷ ‵ (fdies tyBool l14) ∷ ‵ (fat fullShare MStateWords′.mir l13 0 u-28) ∷ ‵ (fdies MStateWords′.mir l13) ∷ ‵ (fat fullShare MSettingsWords′.mir l12 0 u-24) ∷ ‵ (fdies MSettingsWords′.mir l12) ∷ ‵ (fat fullShare MMessage′.mir l11 0 ((parts-Received p-4 w-3 is-7) .pu0)) ∷ ‵ (fdies MMessage′.mir l11) ∷ ‵ (froom tyBool l10 0) ∷ ‵ (fdies tyBool l10) ∷ ‵ (froom MReceived′.mir l9 0) ∷ ‵ (fdies MReceived′.mir l9) ∷ ‵ (fat fullShare (tyRef (named 5) mut (pointee (R-AnswerWords .written))) l8 0 (vptr b8 o8)) ∷ ‵ (fdies (tyRef (named 5) mut (pointee (R-AnswerWords .written))) l8) ∷ ‵ (froom MStamp′.mir l7 0) ∷ ‵ (fdies MStamp′.mir l7) ∷ ‵ (fat fullShare (tyInt w64) l6 0 u6) ∷ ‵ (fdies (tyInt w64) l6) ∷ ‵ (froom (sliceTy (tyRef (named 4) mut (tyInt w8))) l5 0) ∷ ‵ (fdies (sliceTy (tyRef (named 4) mut (tyInt w8))) l5) ∷ ‵ (fat fullShare (tyRef (named 3) mut (pointee (R-Watch .written))) l4 0 (vptr b4 o4)) ∷ ‵ (fdies (tyRef (named 3) mut (pointee (R-Watch .written))) l4) ∷ ‵ (fat fullShare (sliceTy (tyRef (named 2) mut (pointee (R-MasterWords .written)))) l3 0 (sliceVal (b3, o3) (length h3))) ∷ ‵ (fdies (sliceTy (tyRef (named 2) mut (pointee (R-MasterWords .written)))) l3) ∷ ‵ (fat fullShare (tyRef (named 1) mut (pointee (R-Servo .written))) l2 0 (vptr b2 o2)) ∷ ‵ (fdies (tyRef (named 1) mut (pointee (R-Servo .written))) l2) ∷ ‵ (fat fullShare (tyRef (named 0) mut (pointee (R-UnitWords .written))) l1 0 (vptr b1 o1)) ∷ ‵ (fdies (tyRef (named 0) mut (pointee (R-UnitWords .written))) l1) ∷ ‵ (froom tyUnit l0 0) ∷ ‵ (fdies tyUnit l0) ∷ []) (runs C Λ En i-15-1 qq)
+      from-15-1 : (qq : Kit-Post 𝓤 H) (ee : post 𝓤 H qq returnsᴼ ≡ atReturn 𝓤 H En Post returnsᴼ) (zs-8 : List ℕ) (len-9 : length zs-8 ≡ length h5) (p-4 : SReceived.Received) (w-3 : Val) (e-6 : (p-4 ≡ receivedBy (readOf h5)) × (zs-8 ≡ h5)) (is-7 : Is R-Received p-4 (w-3 ∷ [])) (left1 : Holds (not (p-4 .barred))) (good : Holds (not (not (eqb (length h3) 5)))) (u-24 : Val) (g-25 : Is R-SettingsWords (h1 .settings) (u-24 ∷ [])) (u-28 : Val) (g-29 : Is R-StateWords (h1 .state) (u-28 ∷ [])) (held2 : Holds (p-4 .announces)) → Sq W (‵ (fobs γ1 (R-UnitWords .coded .code h1)) ∷ ‵ (fbor κ1 (Body (mem R-UnitWords) b1 o1 γ1)) ∷ ‵ (flft κ1 q1) ∷ ‵ (MutSlice (named 4) κ5 R-u8 .own (x5 zs-8) ((sliceVal (b5, o5) (length h5)) ∷ [])) ∷ ‵ (flft κ5 q5) ∷ ‵ (flft κ8 q8) ∷ ‵ (flft κ4 q4) ∷ ‵ (flft κ3 q3) ∷ ‵ (flft κ2 q2) ∷ ‵ (ftrue) ∷ ‵ (fobs γ8 (R-AnswerWords .coded .code h8)) ∷ ‵ (fbor κ8 (Body (mem R-AnswerWords) b8 o8 γ8)) ∷ ‵ (R-Stamp .own h7 (u7 ∷ [])) ∷ ‵ (R-u64 .own h6 (u6 ∷ [])) ∷ ‵ (fobs γ4 (R-Watch .coded .code h4)) ∷ ‵ (fbor κ4 (Body (mem R-Watch) b4 o4 γ4)) ∷ ‵ (fobs γ3 (codedHoleys R-MasterWords .code (heres R-MasterWords h3))) ∷ ‵ (fbor κ3 (Held R-MasterWords (length h3) b3 o3 γ3)) ∷ ‵ (at-slice R-MasterWords (x3 h3) ((sliceVal (b3, o3) (length h3)) ∷ [])) ∷ ‵ (fobs γ2 (R-Servo .coded .code h2)) ∷ ‵ (fbor κ2 (Body (mem R-Servo) b2 o2 γ2)) ∷ ‵ (froom (tyRef erased mut (pointee (R-u8x128 .written))) l65 0) ∷ ‵ (fdies (tyRef erased mut (pointee (R-u8x128 .written))) l65) ∷ ‵ (froom (tyRef erased mut (pointee (R-i32x128 .written))) l64 0) ∷ ‵ (fdies (tyRef erased mut (pointee (R-i32x128 .written))) l64) ∷ ‵ (froom (tyRef erased mut (pointee (R-i64x128 .written))) l63 0) ∷ ‵ (fdies (tyRef erased mut (pointee (R-i64x128 .written))) l63) ∷ ‵ (froom MHead′.mir l62 0) ∷ ‵ (fdies MHead′.mir l62) ∷ ‵ (froom MAnswerWords′.mir l61 0) ∷ ‵ (fdies MAnswerWords′.mir l61) ∷ ‵ (froom MAnswerWords′.mir l60 0) ∷ ‵ (fdies MAnswerWords′.mir l60) ∷ ‵ (froom (tyRef erased mut (pointee (R-u8x128 .written))) l59 0) ∷ ‵ (fdies (tyRef erased mut (pointee (R-u8x128 .written))) l59) ∷ ‵ (froom (tyRef erased mut (pointee (R-i32x128 .written))) l58 0) ∷ ‵ (fdies (tyRef erased mut (pointee (R-i32x128 .written))) l58) ∷ ‵ (froom (tyRef erased mut (pointee (R-i64x128 .written))) l57 0) ∷ ‵ (fdies (tyRef erased mut (pointee (R-i64x128 .written))) l57) ∷ ‵ (froom MHead′.mir l56 0) ∷ ‵ (fdies MHead′.mir l56) ∷ ‵ (froom tyPtr l55 0) ∷ ‵ (fdies tyPtr l55) ∷ ‵ (froom tyPtr l54 0) ∷ ‵ (fdies tyPtr l54) ∷ ‵ (froom (tyInt w64) l53 0) ∷ ‵ (fdies (tyInt w64) l53) ∷ ‵ (froom MAnswerWords′.mir l52 0) ∷ ‵ (fdies MAnswerWords′.mir l52) ∷ ‵ (froom tyBool l51 0) ∷ ‵ (fdies tyBool l51) ∷ ‵ (froom tyPtr l50 0) ∷ ‵ (fdies tyPtr l50) ∷ ‵ (froom tyPtr l49 0) ∷ ‵ (fdies tyPtr l49) ∷ ‵ (froom tyPtr l48 0) ∷ ‵ (fdies tyPtr l48) ∷ ‵ (froom tyPtr l47 0) ∷ ‵ (fdies tyPtr l47) ∷ ‵ (froom MMasterWords′.mir l46 0) ∷ ‵ (fdies MMasterWords′.mir l46) ∷ ‵ (froom tyPtr l45 0) ∷ ‵ (fdies tyPtr l45) ∷ ‵ (froom MAnswerWords′.mir l44 0) ∷ ‵ (fdies MAnswerWords′.mir l44) ∷ ‵ (froom (tyInt w64) l43 0) ∷ ‵ (fdies (tyInt w64) l43) ∷ ‵ (froom MAnswerWords′.mir l42 0) ∷ ‵ (fdies MAnswerWords′.mir l42) ∷ ‵ (froom tyBool l41 0) ∷ ‵ (fdies tyBool l41) ∷ ‵ (froom (sliceTy (tyRef erased mut (tyInt w8))) l40 0) ∷ ‵ (fdies (sliceTy (tyRef erased mut (tyInt w8))) l40) ∷ ‵ (froom (tyRef erased mut (tyInt w8)) l39 0) ∷ ‵ (fdies (tyRef erased mut (tyInt w8)) l39) ∷ ‵ (froom (tyInt w16) l38 0) ∷ ‵ (fdies (tyInt w16) l38) ∷ ‵ (froom (tyInt w8) l37 0) ∷ ‵ (fdies (tyInt w8) l37) ∷ ‵ (froom MServo′.mir l36 0) ∷ ‵ (fdies MServo′.mir l36) ∷ ‵ (froom tyBool l35 0) ∷ ‵ (fdies tyBool l35) ∷ ‵ (froom tyBool l34 0) ∷ ‵ (fdies tyBool l34) ∷ ‵ (froom MAccepted′.mir l33 0) ∷ ‵ (fdies MAccepted′.mir l33) ∷ ‵ (froom MServo′.mir l32 0) ∷ ‵ (fdies MServo′.mir l32) ∷ ‵ (froom tyBool l31 0) ∷ ‵ (fdies tyBool l31) ∷ ‵ (froom MTold′.mir l30 0) ∷ ‵ (fdies MTold′.mir l30) ∷ ‵ (froom MDelaysWords′.mir l29 0) ∷ ‵ (fdies MDelaysWords′.mir l29) ∷ ‵ (froom MHalvesWords′.mir l28 0) ∷ ‵ (fdies MHalvesWords′.mir l28) ∷ ‵ (froom MEmptied′.mir l27 0) ∷ ‵ (fdies MEmptied′.mir l27) ∷ ‵ (froom tyBool l26 0) ∷ ‵ (fdies tyBool l26) ∷ ‵ (froom MHeld′.mir l25 0) ∷ ‵ (fdies MHeld′.mir l25) ∷ ‵ (froom MMasterWords′.mir l24 0) ∷ ‵ (fdies MMasterWords′.mir l24) ∷ ‵ (froom (tyInt w64) l23 0) ∷ ‵ (fdies (tyInt w64) l23) ∷ ‵ (froom tyBool l22 0) ∷ ‵ (fdies tyBool l22) ∷ ‵ (froom MSeat′.mir l21 0) ∷ ‵ (fdies MSeat′.mir l21) ∷ ‵ (froom MLooked′.mir l20 0) ∷ ‵ (fdies MLooked′.mir l20) ∷ ‵ (froom MLooked′.mir l19 0) ∷ ‵ (fdies MLooked′.mir l19) ∷ ‵ (froom MLooked′.mir l18 0) ∷ ‵ (fdies MLooked′.mir l18) ∷ ‵ (froom MLooked′.mir l17 0) ∷ ‵ (fdies MLooked′.mir l17) ∷ ‵ (froom MLooked′.mir l16 0) ∷ ‵ (fdies MLooked′.mir l16) ∷ ‵ (froom (tyInt w32) l15 0) ∷ ‵ (fdies (tyInt w32) l15) ∷ ‵ (froom tyBool l14 0) ∷ ‵ (fdies tyBool l14) ∷ ‵ (fat fullShare MStateWords′.mir l13 0 u-28) ∷ ‵ (fdies MStateWords′.mir l13) ∷ ‵ (fat fullShare MSettingsWords′.mir l12 0 u-24) ∷ ‵ (fdies MSettingsWords′.mir l12) ∷ ‵ (fat fullShare MMessage′.mir l11 0 ((parts-Received p-4 w-3 is-7) .pu0)) ∷ ‵ (fdies MMessage′.mir l11) ∷ ‵ (froom tyBool l10 0) ∷ ‵ (fdies tyBool l10) ∷ ‵ (froom MReceived′.mir l9 0) ∷ ‵ (fdies MReceived′.mir l9) ∷ ‵ (fat fullShare (tyRef (named 5) mut (pointee (R-AnswerWords .written))) l8 0 (vptr b8 o8)) ∷ ‵ (fdies (tyRef (named 5) mut (pointee (R-AnswerWords .written))) l8) ∷ ‵ (froom MStamp′.mir l7 0) ∷ ‵ (fdies MStamp′.mir l7) ∷ ‵ (fat fullShare (tyInt w64) l6 0 u6) ∷ ‵ (fdies (tyInt w64) l6) ∷ ‵ (froom (sliceTy (tyRef (named 4) mut (tyInt w8))) l5 0) ∷ ‵ (fdies (sliceTy (tyRef (named 4) mut (tyInt w8))) l5) ∷ ‵ (fat fullShare (tyRef (named 3) mut (pointee (R-Watch .written))) l4 0 (vptr b4 o4)) ∷ ‵ (fdies (tyRef (named 3) mut (pointee (R-Watch .written))) l4) ∷ ‵ (fat fullShare (sliceTy (tyRef (named 2) mut (pointee (R-MasterWords .written)))) l3 0 (sliceVal (b3, o3) (length h3))) ∷ ‵ (fdies (sliceTy (tyRef (named 2) mut (pointee (R-MasterWords .written)))) l3) ∷ ‵ (fat fullShare (tyRef (named 1) mut (pointee (R-Servo .written))) l2 0 (vptr b2 o2)) ∷ ‵ (fdies (tyRef (named 1) mut (pointee (R-Servo .written))) l2) ∷ ‵ (fat fullShare (tyRef (named 0) mut (pointee (R-UnitWords .written))) l1 0 (vptr b1 o1)) ∷ ‵ (fdies (tyRef (named 0) mut (pointee (R-UnitWords .written))) l1) ∷ ‵ (froom tyUnit l0 0) ∷ ‵ (fdies tyUnit l0) ∷ []) (runs C Λ En i-15-1 qq)
       from-15-1 qq ee zs-8 len-9 p-4 w-3 e-6 is-7 left1 good u-24 g-25 u-28 g-29 held2 =
           use0 W (raw (C-span 𝓤 H A at-mem run .pre (to-span (h1 .settings) u-24))) (goes-span (h1 .settings) u-24 g-25) $
-          calls-at ! fm (C-span 𝓤 H A at-mem run) known-span (to-span (h1 .settings) u-24) (and-then ! (load ! (from ! (stop !)) (look ! 120 refl)) (no-more !)) (λ w-30.
+          calls-at ! fm (C-span 𝓤 H A at-mem run) known-span (to-span (h1 .settings) u-24) (and-then ! (load ! (from ! (stop !)) (look ! 128 refl)) (no-more !)) (λ w-30.
           use1 W (later (some (λ (p-31 : ℕ). (‵ ftrue ⊛ ‵ (R-u32 .own p-31 (w-30 ∷ []))) ⊛ raw (ensured 𝓤 H A f-span.ended (f-span.clauses 𝓤 H A at-mem run) tt ((h1 .settings), tt) tt p-31)))) (id⊢ 𝓤 _) $ await ! tt $
           pick ! (λ p-31.
           split ! $
@@ -2492,24 +2492,24 @@ module _ {M : Type 1} (𝓤 : URA M) (H : Heap 𝓤) (A : Atoms 𝓤) (W : Given
           drop ! $
           peeks ! R-u32 (Is R-u32) (shows 𝓤 H A R-u32) p-31 (w-30 ∷ []) (λ is-33.
           drop ! $
-          land ! (from ! (stop !)) (init ! 113 refl (lawful-u32 𝓤 H A W .typed p-31 _ is-33 .0)) $
+          land ! (from ! (stop !)) (init ! 121 refl (lawful-u32 𝓤 H A W .typed p-31 _ is-33 .0)) $
           from-15-2 qq ee zs-8 len-9 p-4 w-3 e-6 is-7 left1 good u-24 g-25 u-28 g-29 held2 p-31 w-30 e-32 is-33))))
 
-      from-21-3 : (qq : Kit-Post 𝓤 H) (ee : post 𝓤 H qq returnsᴼ ≡ atReturn 𝓤 H En Post returnsᴼ) (zs-8 : List ℕ) (len-9 : length zs-8 ≡ length h5) (p-4 : SReceived.Received) (w-3 : Val) (e-6 : (p-4 ≡ receivedBy (readOf h5)) × (zs-8 ≡ h5)) (is-7 : Is R-Received p-4 (w-3 ∷ [])) (left1 : Holds (not (p-4 .barred))) (good : Holds (not (not (eqb (length h3) 5)))) (u-24 : Val) (g-25 : Is R-SettingsWords (h1 .settings) (u-24 ∷ [])) (u-28 : Val) (g-29 : Is R-StateWords (h1 .state) (u-28 ∷ [])) (left2 : Holds (not (p-4 .announces))) (u-118 : Val) (g-119 : Is R-HalvesWords (h1 .halves) (u-118 ∷ [])) (u-122 : Val) (g-123 : Is R-DelaysWords (h1 .delays) (u-122 ∷ [])) (p-125 : STold.Told) (w-124 : Val) (e-126 : p-125 ≡ heardTold (h1 .settings) (h1 .state) (h1 .halves) (h1 .delays) (p-4 .message) h6 h7) (is-127 : Is R-Told p-125 (w-124 ∷ [])) (held5 : Holds (p-125 .barred)) (p-129 : SAnswerWords.AnswerWords) (w-128 : Val) (e-130 : p-129 ≡ refusing (p-125 .number)) (is-131 : Is R-AnswerWords p-129 (w-128 ∷ [])) → Sq W (‵ (fobs γ8 (R-AnswerWords .coded .code p-129)) ∷ ‵ (fbor κ8 (Body (mem R-AnswerWords) b8 o8 γ8)) ∷ ‵ (flft κ8 q8) ∷ ‵ (fobs γ1 (R-UnitWords .coded .code h1)) ∷ ‵ (fbor κ1 (Body (mem R-UnitWords) b1 o1 γ1)) ∷ ‵ (flft κ1 q1) ∷ ‵ (MutSlice (named 4) κ5 R-u8 .own (x5 zs-8) ((sliceVal (b5, o5) (length h5)) ∷ [])) ∷ ‵ (flft κ5 q5) ∷ ‵ (flft κ4 q4) ∷ ‵ (flft κ3 q3) ∷ ‵ (flft κ2 q2) ∷ ‵ (ftrue) ∷ ‵ (R-Stamp .own h7 (u7 ∷ [])) ∷ ‵ (R-u64 .own h6 (u6 ∷ [])) ∷ ‵ (fobs γ4 (R-Watch .coded .code h4)) ∷ ‵ (fbor κ4 (Body (mem R-Watch) b4 o4 γ4)) ∷ ‵ (fobs γ3 (codedHoleys R-MasterWords .code (heres R-MasterWords h3))) ∷ ‵ (fbor κ3 (Held R-MasterWords (length h3) b3 o3 γ3)) ∷ ‵ (at-slice R-MasterWords (x3 h3) ((sliceVal (b3, o3) (length h3)) ∷ [])) ∷ ‵ (fobs γ2 (R-Servo .coded .code h2)) ∷ ‵ (fbor κ2 (Body (mem R-Servo) b2 o2 γ2)) ∷ ‵ (froom (tyRef erased mut (pointee (R-u8x128 .written))) l61 0) ∷ ‵ (fdies (tyRef erased mut (pointee (R-u8x128 .written))) l61) ∷ ‵ (froom (tyRef erased mut (pointee (R-i32x128 .written))) l60 0) ∷ ‵ (fdies (tyRef erased mut (pointee (R-i32x128 .written))) l60) ∷ ‵ (froom (tyRef erased mut (pointee (R-i64x128 .written))) l59 0) ∷ ‵ (fdies (tyRef erased mut (pointee (R-i64x128 .written))) l59) ∷ ‵ (froom MHead′.mir l58 0) ∷ ‵ (fdies MHead′.mir l58) ∷ ‵ (froom MAnswerWords′.mir l57 0) ∷ ‵ (fdies MAnswerWords′.mir l57) ∷ ‵ (froom MAnswerWords′.mir l56 0) ∷ ‵ (fdies MAnswerWords′.mir l56) ∷ ‵ (froom (tyRef erased mut (pointee (R-u8x128 .written))) l55 0) ∷ ‵ (fdies (tyRef erased mut (pointee (R-u8x128 .written))) l55) ∷ ‵ (froom (tyRef erased mut (pointee (R-i32x128 .written))) l54 0) ∷ ‵ (fdies (tyRef erased mut (pointee (R-i32x128 .written))) l54) ∷ ‵ (froom (tyRef erased mut (pointee (R-i64x128 .written))) l53 0) ∷ ‵ (fdies (tyRef erased mut (pointee (R-i64x128 .written))) l53) ∷ ‵ (froom MHead′.mir l52 0) ∷ ‵ (fdies MHead′.mir l52) ∷ ‵ (froom tyPtr l51 0) ∷ ‵ (fdies tyPtr l51) ∷ ‵ (froom tyPtr l50 0) ∷ ‵ (fdies tyPtr l50) ∷ ‵ (froom (tyInt w64) l49 0) ∷ ‵ (fdies (tyInt w64) l49) ∷ ‵ (froom MAnswerWords′.mir l48 0) ∷ ‵ (fdies MAnswerWords′.mir l48) ∷ ‵ (froom tyBool l47 0) ∷ ‵ (fdies tyBool l47) ∷ ‵ (froom tyPtr l46 0) ∷ ‵ (fdies tyPtr l46) ∷ ‵ (froom tyPtr l45 0) ∷ ‵ (fdies tyPtr l45) ∷ ‵ (froom tyPtr l44 0) ∷ ‵ (fdies tyPtr l44) ∷ ‵ (froom tyPtr l43 0) ∷ ‵ (fdies tyPtr l43) ∷ ‵ (froom MMasterWords′.mir l42 0) ∷ ‵ (fdies MMasterWords′.mir l42) ∷ ‵ (froom tyPtr l41 0) ∷ ‵ (fdies tyPtr l41) ∷ ‵ (froom MAnswerWords′.mir l40 0) ∷ ‵ (fdies MAnswerWords′.mir l40) ∷ ‵ (froom (tyInt w64) l39 0) ∷ ‵ (fdies (tyInt w64) l39) ∷ ‵ (froom MAnswerWords′.mir l38 0) ∷ ‵ (fdies MAnswerWords′.mir l38) ∷ ‵ (froom tyBool l37 0) ∷ ‵ (fdies tyBool l37) ∷ ‵ (froom (sliceTy (tyRef erased mut (tyInt w8))) l36 0) ∷ ‵ (fdies (sliceTy (tyRef erased mut (tyInt w8))) l36) ∷ ‵ (froom (tyRef erased mut (tyInt w8)) l35 0) ∷ ‵ (fdies (tyRef erased mut (tyInt w8)) l35) ∷ ‵ (froom tyBool l34 0) ∷ ‵ (fdies tyBool l34) ∷ ‵ (froom MServo′.mir l33 0) ∷ ‵ (fdies MServo′.mir l33) ∷ ‵ (froom MServo′.mir l32 0) ∷ ‵ (fdies MServo′.mir l32) ∷ ‵ (froom tyBool l31 0) ∷ ‵ (fdies tyBool l31) ∷ ‵ (froom MTold′.mir l30 0) ∷ ‵ (fdies MTold′.mir l30) ∷ ‵ (froom MDelaysWords′.mir l29 0) ∷ ‵ (fdies MDelaysWords′.mir l29) ∷ ‵ (froom MHalvesWords′.mir l28 0) ∷ ‵ (fdies MHalvesWords′.mir l28) ∷ ‵ (froom MEmptied′.mir l27 0) ∷ ‵ (fdies MEmptied′.mir l27) ∷ ‵ (froom tyBool l26 0) ∷ ‵ (fdies tyBool l26) ∷ ‵ (froom MHeld′.mir l25 0) ∷ ‵ (fdies MHeld′.mir l25) ∷ ‵ (froom MMasterWords′.mir l24 0) ∷ ‵ (fdies MMasterWords′.mir l24) ∷ ‵ (froom (tyInt w64) l23 0) ∷ ‵ (fdies (tyInt w64) l23) ∷ ‵ (froom tyBool l22 0) ∷ ‵ (fdies tyBool l22) ∷ ‵ (froom MSeat′.mir l21 0) ∷ ‵ (fdies MSeat′.mir l21) ∷ ‵ (froom MLooked′.mir l20 0) ∷ ‵ (fdies MLooked′.mir l20) ∷ ‵ (froom MLooked′.mir l19 0) ∷ ‵ (fdies MLooked′.mir l19) ∷ ‵ (froom MLooked′.mir l18 0) ∷ ‵ (fdies MLooked′.mir l18) ∷ ‵ (froom MLooked′.mir l17 0) ∷ ‵ (fdies MLooked′.mir l17) ∷ ‵ (froom MLooked′.mir l16 0) ∷ ‵ (fdies MLooked′.mir l16) ∷ ‵ (froom (tyInt w32) l15 0) ∷ ‵ (fdies (tyInt w32) l15) ∷ ‵ (froom tyBool l14 0) ∷ ‵ (fdies tyBool l14) ∷ ‵ (froom MStateWords′.mir l13 0) ∷ ‵ (fdies MStateWords′.mir l13) ∷ ‵ (froom MSettingsWords′.mir l12 0) ∷ ‵ (fdies MSettingsWords′.mir l12) ∷ ‵ (froom MMessage′.mir l11 0) ∷ ‵ (fdies MMessage′.mir l11) ∷ ‵ (froom tyBool l10 0) ∷ ‵ (fdies tyBool l10) ∷ ‵ (froom MReceived′.mir l9 0) ∷ ‵ (fdies MReceived′.mir l9) ∷ ‵ (froom (tyRef (named 5) mut (pointee (R-AnswerWords .written))) l8 0) ∷ ‵ (fdies (tyRef (named 5) mut (pointee (R-AnswerWords .written))) l8) ∷ ‵ (froom MStamp′.mir l7 0) ∷ ‵ (fdies MStamp′.mir l7) ∷ ‵ (froom (tyInt w64) l6 0) ∷ ‵ (fdies (tyInt w64) l6) ∷ ‵ (froom (sliceTy (tyRef (named 4) mut (tyInt w8))) l5 0) ∷ ‵ (fdies (sliceTy (tyRef (named 4) mut (tyInt w8))) l5) ∷ ‵ (froom (tyRef (named 3) mut (pointee (R-Watch .written))) l4 0) ∷ ‵ (fdies (tyRef (named 3) mut (pointee (R-Watch .written))) l4) ∷ ‵ (froom (sliceTy (tyRef (named 2) mut (pointee (R-MasterWords .written)))) l3 0) ∷ ‵ (fdies (sliceTy (tyRef (named 2) mut (pointee (R-MasterWords .written)))) l3) ∷ ‵ (froom (tyRef (named 1) mut (pointee (R-Servo .written))) l2 0) ∷ ‵ (fdies (tyRef (named 1) mut (pointee (R-Servo .written))) l2) ∷ ‵ (froom (tyRef (named 0) mut (pointee (R-UnitWords .written))) l1 0) ∷ ‵ (fdies (tyRef (named 0) mut (pointee (R-UnitWords .written))) l1) ∷ ‵ (froom tyUnit l0 0) ∷ ‵ (fdies tyUnit l0) ∷ []) (runs C Λ En i-21-3 qq)
+      from-21-3 : (qq : Kit-Post 𝓤 H) (ee : post 𝓤 H qq returnsᴼ ≡ atReturn 𝓤 H En Post returnsᴼ) (zs-8 : List ℕ) (len-9 : length zs-8 ≡ length h5) (p-4 : SReceived.Received) (w-3 : Val) (e-6 : (p-4 ≡ receivedBy (readOf h5)) × (zs-8 ≡ h5)) (is-7 : Is R-Received p-4 (w-3 ∷ [])) (left1 : Holds (not (p-4 .barred))) (good : Holds (not (not (eqb (length h3) 5)))) (u-24 : Val) (g-25 : Is R-SettingsWords (h1 .settings) (u-24 ∷ [])) (u-28 : Val) (g-29 : Is R-StateWords (h1 .state) (u-28 ∷ [])) (left2 : Holds (not (p-4 .announces))) (u-118 : Val) (g-119 : Is R-HalvesWords (h1 .halves) (u-118 ∷ [])) (u-122 : Val) (g-123 : Is R-DelaysWords (h1 .delays) (u-122 ∷ [])) (p-125 : STold.Told) (w-124 : Val) (e-126 : p-125 ≡ heardTold (h1 .settings) (h1 .state) (h1 .halves) (h1 .delays) (p-4 .message) h6 h7) (is-127 : Is R-Told p-125 (w-124 ∷ [])) (held5 : Holds (p-125 .barred)) (p-129 : SAnswerWords.AnswerWords) (w-128 : Val) (e-130 : p-129 ≡ refusing (p-125 .number)) (is-131 : Is R-AnswerWords p-129 (w-128 ∷ [])) → Sq W (‵ (fobs γ8 (R-AnswerWords .coded .code p-129)) ∷ ‵ (fbor κ8 (Body (mem R-AnswerWords) b8 o8 γ8)) ∷ ‵ (flft κ8 q8) ∷ ‵ (fobs γ1 (R-UnitWords .coded .code h1)) ∷ ‵ (fbor κ1 (Body (mem R-UnitWords) b1 o1 γ1)) ∷ ‵ (flft κ1 q1) ∷ ‵ (MutSlice (named 4) κ5 R-u8 .own (x5 zs-8) ((sliceVal (b5, o5) (length h5)) ∷ [])) ∷ ‵ (flft κ5 q5) ∷ ‵ (flft κ4 q4) ∷ ‵ (flft κ3 q3) ∷ ‵ (flft κ2 q2) ∷ ‵ (ftrue) ∷ ‵ (R-Stamp .own h7 (u7 ∷ [])) ∷ ‵ (R-u64 .own h6 (u6 ∷ [])) ∷ ‵ (fobs γ4 (R-Watch .coded .code h4)) ∷ ‵ (fbor κ4 (Body (mem R-Watch) b4 o4 γ4)) ∷ ‵ (fobs γ3 (codedHoleys R-MasterWords .code (heres R-MasterWords h3))) ∷ ‵ (fbor κ3 (Held R-MasterWords (length h3) b3 o3 γ3)) ∷ ‵ (at-slice R-MasterWords (x3 h3) ((sliceVal (b3, o3) (length h3)) ∷ [])) ∷ ‵ (fobs γ2 (R-Servo .coded .code h2)) ∷ ‵ (fbor κ2 (Body (mem R-Servo) b2 o2 γ2)) ∷ ‵ (froom (tyRef erased mut (pointee (R-u8x128 .written))) l65 0) ∷ ‵ (fdies (tyRef erased mut (pointee (R-u8x128 .written))) l65) ∷ ‵ (froom (tyRef erased mut (pointee (R-i32x128 .written))) l64 0) ∷ ‵ (fdies (tyRef erased mut (pointee (R-i32x128 .written))) l64) ∷ ‵ (froom (tyRef erased mut (pointee (R-i64x128 .written))) l63 0) ∷ ‵ (fdies (tyRef erased mut (pointee (R-i64x128 .written))) l63) ∷ ‵ (froom MHead′.mir l62 0) ∷ ‵ (fdies MHead′.mir l62) ∷ ‵ (froom MAnswerWords′.mir l61 0) ∷ ‵ (fdies MAnswerWords′.mir l61) ∷ ‵ (froom MAnswerWords′.mir l60 0) ∷ ‵ (fdies MAnswerWords′.mir l60) ∷ ‵ (froom (tyRef erased mut (pointee (R-u8x128 .written))) l59 0) ∷ ‵ (fdies (tyRef erased mut (pointee (R-u8x128 .written))) l59) ∷ ‵ (froom (tyRef erased mut (pointee (R-i32x128 .written))) l58 0) ∷ ‵ (fdies (tyRef erased mut (pointee (R-i32x128 .written))) l58) ∷ ‵ (froom (tyRef erased mut (pointee (R-i64x128 .written))) l57 0) ∷ ‵ (fdies (tyRef erased mut (pointee (R-i64x128 .written))) l57) ∷ ‵ (froom MHead′.mir l56 0) ∷ ‵ (fdies MHead′.mir l56) ∷ ‵ (froom tyPtr l55 0) ∷ ‵ (fdies tyPtr l55) ∷ ‵ (froom tyPtr l54 0) ∷ ‵ (fdies tyPtr l54) ∷ ‵ (froom (tyInt w64) l53 0) ∷ ‵ (fdies (tyInt w64) l53) ∷ ‵ (froom MAnswerWords′.mir l52 0) ∷ ‵ (fdies MAnswerWords′.mir l52) ∷ ‵ (froom tyBool l51 0) ∷ ‵ (fdies tyBool l51) ∷ ‵ (froom tyPtr l50 0) ∷ ‵ (fdies tyPtr l50) ∷ ‵ (froom tyPtr l49 0) ∷ ‵ (fdies tyPtr l49) ∷ ‵ (froom tyPtr l48 0) ∷ ‵ (fdies tyPtr l48) ∷ ‵ (froom tyPtr l47 0) ∷ ‵ (fdies tyPtr l47) ∷ ‵ (froom MMasterWords′.mir l46 0) ∷ ‵ (fdies MMasterWords′.mir l46) ∷ ‵ (froom tyPtr l45 0) ∷ ‵ (fdies tyPtr l45) ∷ ‵ (froom MAnswerWords′.mir l44 0) ∷ ‵ (fdies MAnswerWords′.mir l44) ∷ ‵ (froom (tyInt w64) l43 0) ∷ ‵ (fdies (tyInt w64) l43) ∷ ‵ (froom MAnswerWords′.mir l42 0) ∷ ‵ (fdies MAnswerWords′.mir l42) ∷ ‵ (froom tyBool l41 0) ∷ ‵ (fdies tyBool l41) ∷ ‵ (froom (sliceTy (tyRef erased mut (tyInt w8))) l40 0) ∷ ‵ (fdies (sliceTy (tyRef erased mut (tyInt w8))) l40) ∷ ‵ (froom (tyRef erased mut (tyInt w8)) l39 0) ∷ ‵ (fdies (tyRef erased mut (tyInt w8)) l39) ∷ ‵ (froom (tyInt w16) l38 0) ∷ ‵ (fdies (tyInt w16) l38) ∷ ‵ (froom (tyInt w8) l37 0) ∷ ‵ (fdies (tyInt w8) l37) ∷ ‵ (froom MServo′.mir l36 0) ∷ ‵ (fdies MServo′.mir l36) ∷ ‵ (froom tyBool l35 0) ∷ ‵ (fdies tyBool l35) ∷ ‵ (froom tyBool l34 0) ∷ ‵ (fdies tyBool l34) ∷ ‵ (froom MAccepted′.mir l33 0) ∷ ‵ (fdies MAccepted′.mir l33) ∷ ‵ (froom MServo′.mir l32 0) ∷ ‵ (fdies MServo′.mir l32) ∷ ‵ (froom tyBool l31 0) ∷ ‵ (fdies tyBool l31) ∷ ‵ (froom MTold′.mir l30 0) ∷ ‵ (fdies MTold′.mir l30) ∷ ‵ (froom MDelaysWords′.mir l29 0) ∷ ‵ (fdies MDelaysWords′.mir l29) ∷ ‵ (froom MHalvesWords′.mir l28 0) ∷ ‵ (fdies MHalvesWords′.mir l28) ∷ ‵ (froom MEmptied′.mir l27 0) ∷ ‵ (fdies MEmptied′.mir l27) ∷ ‵ (froom tyBool l26 0) ∷ ‵ (fdies tyBool l26) ∷ ‵ (froom MHeld′.mir l25 0) ∷ ‵ (fdies MHeld′.mir l25) ∷ ‵ (froom MMasterWords′.mir l24 0) ∷ ‵ (fdies MMasterWords′.mir l24) ∷ ‵ (froom (tyInt w64) l23 0) ∷ ‵ (fdies (tyInt w64) l23) ∷ ‵ (froom tyBool l22 0) ∷ ‵ (fdies tyBool l22) ∷ ‵ (froom MSeat′.mir l21 0) ∷ ‵ (fdies MSeat′.mir l21) ∷ ‵ (froom MLooked′.mir l20 0) ∷ ‵ (fdies MLooked′.mir l20) ∷ ‵ (froom MLooked′.mir l19 0) ∷ ‵ (fdies MLooked′.mir l19) ∷ ‵ (froom MLooked′.mir l18 0) ∷ ‵ (fdies MLooked′.mir l18) ∷ ‵ (froom MLooked′.mir l17 0) ∷ ‵ (fdies MLooked′.mir l17) ∷ ‵ (froom MLooked′.mir l16 0) ∷ ‵ (fdies MLooked′.mir l16) ∷ ‵ (froom (tyInt w32) l15 0) ∷ ‵ (fdies (tyInt w32) l15) ∷ ‵ (froom tyBool l14 0) ∷ ‵ (fdies tyBool l14) ∷ ‵ (froom MStateWords′.mir l13 0) ∷ ‵ (fdies MStateWords′.mir l13) ∷ ‵ (froom MSettingsWords′.mir l12 0) ∷ ‵ (fdies MSettingsWords′.mir l12) ∷ ‵ (froom MMessage′.mir l11 0) ∷ ‵ (fdies MMessage′.mir l11) ∷ ‵ (froom tyBool l10 0) ∷ ‵ (fdies tyBool l10) ∷ ‵ (froom MReceived′.mir l9 0) ∷ ‵ (fdies MReceived′.mir l9) ∷ ‵ (froom (tyRef (named 5) mut (pointee (R-AnswerWords .written))) l8 0) ∷ ‵ (fdies (tyRef (named 5) mut (pointee (R-AnswerWords .written))) l8) ∷ ‵ (froom MStamp′.mir l7 0) ∷ ‵ (fdies MStamp′.mir l7) ∷ ‵ (froom (tyInt w64) l6 0) ∷ ‵ (fdies (tyInt w64) l6) ∷ ‵ (froom (sliceTy (tyRef (named 4) mut (tyInt w8))) l5 0) ∷ ‵ (fdies (sliceTy (tyRef (named 4) mut (tyInt w8))) l5) ∷ ‵ (froom (tyRef (named 3) mut (pointee (R-Watch .written))) l4 0) ∷ ‵ (fdies (tyRef (named 3) mut (pointee (R-Watch .written))) l4) ∷ ‵ (froom (sliceTy (tyRef (named 2) mut (pointee (R-MasterWords .written)))) l3 0) ∷ ‵ (fdies (sliceTy (tyRef (named 2) mut (pointee (R-MasterWords .written)))) l3) ∷ ‵ (froom (tyRef (named 1) mut (pointee (R-Servo .written))) l2 0) ∷ ‵ (fdies (tyRef (named 1) mut (pointee (R-Servo .written))) l2) ∷ ‵ (froom (tyRef (named 0) mut (pointee (R-UnitWords .written))) l1 0) ∷ ‵ (fdies (tyRef (named 0) mut (pointee (R-UnitWords .written))) l1) ∷ ‵ (froom tyUnit l0 0) ∷ ‵ (fdies tyUnit l0) ∷ []) (runs C Λ En i-21-3 qq)
       from-21-3 qq ee zs-8 len-9 p-4 w-3 e-6 is-7 left1 good u-24 g-25 u-28 g-29 left2 u-118 g-119 u-122 g-123 p-125 w-124 e-126 is-127 held5 p-129 w-128 e-130 is-131 =
-          assigns ! (of-opd ! (unit-lit !)) (from ! (stop !)) (init ! 143 refl (tt, tt)) $
-          returns-within ! Post ee (look ! 143 refl) $
-          forget ! 143 refl $
-          move ! (143 ∷ 144 ∷ 141 ∷ 142 ∷ 139 ∷ 140 ∷ 137 ∷ 138 ∷ 135 ∷ 136 ∷ 133 ∷ 134 ∷ 131 ∷ 132 ∷ 129 ∷ 130 ∷ 127 ∷ 128 ∷ 125 ∷ 126 ∷ 123 ∷ 124 ∷ 121 ∷ 122 ∷ 119 ∷ 120 ∷ 117 ∷ 118 ∷ 115 ∷ 116 ∷ 113 ∷ 114 ∷ 111 ∷ 112 ∷ 109 ∷ 110 ∷ 107 ∷ 108 ∷ 105 ∷ 106 ∷ 103 ∷ 104 ∷ 101 ∷ 102 ∷ 99 ∷ 100 ∷ 97 ∷ 98 ∷ 95 ∷ 96 ∷ 93 ∷ 94 ∷ 91 ∷ 92 ∷ 89 ∷ 90 ∷ 87 ∷ 88 ∷ 85 ∷ 86 ∷ 83 ∷ 84 ∷ 81 ∷ 82 ∷ 79 ∷ 80 ∷ 77 ∷ 78 ∷ 75 ∷ 76 ∷ 73 ∷ 74 ∷ 71 ∷ 72 ∷ 69 ∷ 70 ∷ 67 ∷ 68 ∷ 65 ∷ 66 ∷ 63 ∷ 64 ∷ 61 ∷ 62 ∷ 59 ∷ 60 ∷ 57 ∷ 58 ∷ 55 ∷ 56 ∷ 53 ∷ 54 ∷ 51 ∷ 52 ∷ 49 ∷ 50 ∷ 47 ∷ 48 ∷ 45 ∷ 46 ∷ 43 ∷ 44 ∷ 41 ∷ 42 ∷ 39 ∷ 40 ∷ 37 ∷ 38 ∷ 35 ∷ 36 ∷ 33 ∷ 34 ∷ 31 ∷ 32 ∷ 29 ∷ 30 ∷ 27 ∷ 28 ∷ 25 ∷ 26 ∷ 23 ∷ 24 ∷ 21 ∷ 22 ∷ []) $
+          assigns ! (of-opd ! (unit-lit !)) (from ! (stop !)) (init ! 151 refl (tt, tt)) $
+          returns-within ! Post ee (look ! 151 refl) $
+          forget ! 151 refl $
+          move ! (151 ∷ 152 ∷ 149 ∷ 150 ∷ 147 ∷ 148 ∷ 145 ∷ 146 ∷ 143 ∷ 144 ∷ 141 ∷ 142 ∷ 139 ∷ 140 ∷ 137 ∷ 138 ∷ 135 ∷ 136 ∷ 133 ∷ 134 ∷ 131 ∷ 132 ∷ 129 ∷ 130 ∷ 127 ∷ 128 ∷ 125 ∷ 126 ∷ 123 ∷ 124 ∷ 121 ∷ 122 ∷ 119 ∷ 120 ∷ 117 ∷ 118 ∷ 115 ∷ 116 ∷ 113 ∷ 114 ∷ 111 ∷ 112 ∷ 109 ∷ 110 ∷ 107 ∷ 108 ∷ 105 ∷ 106 ∷ 103 ∷ 104 ∷ 101 ∷ 102 ∷ 99 ∷ 100 ∷ 97 ∷ 98 ∷ 95 ∷ 96 ∷ 93 ∷ 94 ∷ 91 ∷ 92 ∷ 89 ∷ 90 ∷ 87 ∷ 88 ∷ 85 ∷ 86 ∷ 83 ∷ 84 ∷ 81 ∷ 82 ∷ 79 ∷ 80 ∷ 77 ∷ 78 ∷ 75 ∷ 76 ∷ 73 ∷ 74 ∷ 71 ∷ 72 ∷ 69 ∷ 70 ∷ 67 ∷ 68 ∷ 65 ∷ 66 ∷ 63 ∷ 64 ∷ 61 ∷ 62 ∷ 59 ∷ 60 ∷ 57 ∷ 58 ∷ 55 ∷ 56 ∷ 53 ∷ 54 ∷ 51 ∷ 52 ∷ 49 ∷ 50 ∷ 47 ∷ 48 ∷ 45 ∷ 46 ∷ 43 ∷ 44 ∷ 41 ∷ 42 ∷ 39 ∷ 40 ∷ 37 ∷ 38 ∷ 35 ∷ 36 ∷ 33 ∷ 34 ∷ 31 ∷ 32 ∷ 29 ∷ 30 ∷ 27 ∷ 28 ∷ 25 ∷ 26 ∷ 23 ∷ 24 ∷ 21 ∷ 22 ∷ []) $
           freed _ _ (
           keep ! (3 ∷ 4 ∷ 5 ∷ 19 ∷ 20 ∷ 10 ∷ 16 ∷ 17 ∷ 9 ∷ 14 ∷ 15 ∷ 8 ∷ 6 ∷ 7 ∷ 0 ∷ 1 ∷ 2 ∷ 13 ∷ 12 ∷ 11 ∷ []) $
           by ! (exits-6 zs-8 len-9 p-4 w-3 e-6 is-7 left1 good u-24 g-25 u-28 g-29 left2 u-118 g-119 u-122 g-123 p-125 w-124 e-126 is-127 held5 p-129 w-128 e-130 is-131))
 
-      from-21-1 : (qq : Kit-Post 𝓤 H) (ee : post 𝓤 H qq returnsᴼ ≡ atReturn 𝓤 H En Post returnsᴼ) (zs-8 : List ℕ) (len-9 : length zs-8 ≡ length h5) (p-4 : SReceived.Received) (w-3 : Val) (e-6 : (p-4 ≡ receivedBy (readOf h5)) × (zs-8 ≡ h5)) (is-7 : Is R-Received p-4 (w-3 ∷ [])) (left1 : Holds (not (p-4 .barred))) (good : Holds (not (not (eqb (length h3) 5)))) (u-24 : Val) (g-25 : Is R-SettingsWords (h1 .settings) (u-24 ∷ [])) (u-28 : Val) (g-29 : Is R-StateWords (h1 .state) (u-28 ∷ [])) (left2 : Holds (not (p-4 .announces))) (u-118 : Val) (g-119 : Is R-HalvesWords (h1 .halves) (u-118 ∷ [])) (u-122 : Val) (g-123 : Is R-DelaysWords (h1 .delays) (u-122 ∷ [])) (p-125 : STold.Told) (w-124 : Val) (e-126 : p-125 ≡ heardTold (h1 .settings) (h1 .state) (h1 .halves) (h1 .delays) (p-4 .message) h6 h7) (is-127 : Is R-Told p-125 (w-124 ∷ [])) (held5 : Holds (p-125 .barred)) → Sq W (‵ (fobs γ1 (R-UnitWords .coded .code h1)) ∷ ‵ (fbor κ1 (Body (mem R-UnitWords) b1 o1 γ1)) ∷ ‵ (flft κ1 q1) ∷ ‵ (MutSlice (named 4) κ5 R-u8 .own (x5 zs-8) ((sliceVal (b5, o5) (length h5)) ∷ [])) ∷ ‵ (flft κ5 q5) ∷ ‵ (flft κ8 q8) ∷ ‵ (flft κ4 q4) ∷ ‵ (flft κ3 q3) ∷ ‵ (flft κ2 q2) ∷ ‵ (ftrue) ∷ ‵ (fobs γ8 (R-AnswerWords .coded .code h8)) ∷ ‵ (fbor κ8 (Body (mem R-AnswerWords) b8 o8 γ8)) ∷ ‵ (R-Stamp .own h7 (u7 ∷ [])) ∷ ‵ (R-u64 .own h6 (u6 ∷ [])) ∷ ‵ (fobs γ4 (R-Watch .coded .code h4)) ∷ ‵ (fbor κ4 (Body (mem R-Watch) b4 o4 γ4)) ∷ ‵ (fobs γ3 (codedHoleys R-MasterWords .code (heres R-MasterWords h3))) ∷ ‵ (fbor κ3 (Held R-MasterWords (length h3) b3 o3 γ3)) ∷ ‵ (at-slice R-MasterWords (x3 h3) ((sliceVal (b3, o3) (length h3)) ∷ [])) ∷ ‵ (fobs γ2 (R-Servo .coded .code h2)) ∷ ‵ (fbor κ2 (Body (mem R-Servo) b2 o2 γ2)) ∷ ‵ (froom (tyRef erased mut (pointee (R-u8x128 .written))) l61 0) ∷ ‵ (fdies (tyRef erased mut (pointee (R-u8x128 .written))) l61) ∷ ‵ (froom (tyRef erased mut (pointee (R-i32x128 .written))) l60 0) ∷ ‵ (fdies (tyRef erased mut (pointee (R-i32x128 .written))) l60) ∷ ‵ (froom (tyRef erased mut (pointee (R-i64x128 .written))) l59 0) ∷ ‵ (fdies (tyRef erased mut (pointee (R-i64x128 .written))) l59) ∷ ‵ (froom MHead′.mir l58 0) ∷ ‵ (fdies MHead′.mir l58) ∷ ‵ (froom MAnswerWords′.mir l57 0) ∷ ‵ (fdies MAnswerWords′.mir l57) ∷ ‵ (froom MAnswerWords′.mir l56 0) ∷ ‵ (fdies MAnswerWords′.mir l56) ∷ ‵ (froom (tyRef erased mut (pointee (R-u8x128 .written))) l55 0) ∷ ‵ (fdies (tyRef erased mut (pointee (R-u8x128 .written))) l55) ∷ ‵ (froom (tyRef erased mut (pointee (R-i32x128 .written))) l54 0) ∷ ‵ (fdies (tyRef erased mut (pointee (R-i32x128 .written))) l54) ∷ ‵ (froom (tyRef erased mut (pointee (R-i64x128 .written))) l53 0) ∷ ‵ (fdies (tyRef erased mut (pointee (R-i64x128 .written))) l53) ∷ ‵ (froom MHead′.mir l52 0) ∷ ‵ (fdies MHead′.mir l52) ∷ ‵ (froom tyPtr l51 0) ∷ ‵ (fdies tyPtr l51) ∷ ‵ (froom tyPtr l50 0) ∷ ‵ (fdies tyPtr l50) ∷ ‵ (froom (tyInt w64) l49 0) ∷ ‵ (fdies (tyInt w64) l49) ∷ ‵ (froom MAnswerWords′.mir l48 0) ∷ ‵ (fdies MAnswerWords′.mir l48) ∷ ‵ (froom tyBool l47 0) ∷ ‵ (fdies tyBool l47) ∷ ‵ (froom tyPtr l46 0) ∷ ‵ (fdies tyPtr l46) ∷ ‵ (froom tyPtr l45 0) ∷ ‵ (fdies tyPtr l45) ∷ ‵ (froom tyPtr l44 0) ∷ ‵ (fdies tyPtr l44) ∷ ‵ (froom tyPtr l43 0) ∷ ‵ (fdies tyPtr l43) ∷ ‵ (froom MMasterWords′.mir l42 0) ∷ ‵ (fdies MMasterWords′.mir l42) ∷ ‵ (froom tyPtr l41 0) ∷ ‵ (fdies tyPtr l41) ∷ ‵ (froom MAnswerWords′.mir l40 0) ∷ ‵ (fdies MAnswerWords′.mir l40) ∷ ‵ (froom (tyInt w64) l39 0) ∷ ‵ (fdies (tyInt w64) l39) ∷ ‵ (froom MAnswerWords′.mir l38 0) ∷ ‵ (fdies MAnswerWords′.mir l38) ∷ ‵ (froom tyBool l37 0) ∷ ‵ (fdies tyBool l37) ∷ ‵ (froom (sliceTy (tyRef erased mut (tyInt w8))) l36 0) ∷ ‵ (fdies (sliceTy (tyRef erased mut (tyInt w8))) l36) ∷ ‵ (froom (tyRef erased mut (tyInt w8)) l35 0) ∷ ‵ (fdies (tyRef erased mut (tyInt w8)) l35) ∷ ‵ (froom tyBool l34 0) ∷ ‵ (fdies tyBool l34) ∷ ‵ (froom MServo′.mir l33 0) ∷ ‵ (fdies MServo′.mir l33) ∷ ‵ (froom MServo′.mir l32 0) ∷ ‵ (fdies MServo′.mir l32) ∷ ‵ (froom tyBool l31 0) ∷ ‵ (fdies tyBool l31) ∷ ‵ (fat fullShare MTold′.mir l30 0 (vstruct (ofList ((parts-Told p-125 w-124 is-127) .pu0 ∷ (parts-Told p-125 w-124 is-127) .pu1 ∷ (parts-Told p-125 w-124 is-127) .pu2 ∷ (parts-Told p-125 w-124 is-127) .pu3 ∷ (parts-Told p-125 w-124 is-127) .pu4 ∷ (parts-Told p-125 w-124 is-127) .pu5 ∷ (parts-Told p-125 w-124 is-127) .pu6 ∷ (parts-Told p-125 w-124 is-127) .pu7 ∷ (parts-Told p-125 w-124 is-127) .pu8 ∷ (parts-Told p-125 w-124 is-127) .pu9 ∷ [])))) ∷ ‵ (fdies MTold′.mir l30) ∷ ‵ (froom MDelaysWords′.mir l29 0) ∷ ‵ (fdies MDelaysWords′.mir l29) ∷ ‵ (froom MHalvesWords′.mir l28 0) ∷ ‵ (fdies MHalvesWords′.mir l28) ∷ ‵ (froom MEmptied′.mir l27 0) ∷ ‵ (fdies MEmptied′.mir l27) ∷ ‵ (froom tyBool l26 0) ∷ ‵ (fdies tyBool l26) ∷ ‵ (froom MHeld′.mir l25 0) ∷ ‵ (fdies MHeld′.mir l25) ∷ ‵ (froom MMasterWords′.mir l24 0) ∷ ‵ (fdies MMasterWords′.mir l24) ∷ ‵ (froom (tyInt w64) l23 0) ∷ ‵ (fdies (tyInt w64) l23) ∷ ‵ (froom tyBool l22 0) ∷ ‵ (fdies tyBool l22) ∷ ‵ (froom MSeat′.mir l21 0) ∷ ‵ (fdies MSeat′.mir l21) ∷ ‵ (froom MLooked′.mir l20 0) ∷ ‵ (fdies MLooked′.mir l20) ∷ ‵ (froom MLooked′.mir l19 0) ∷ ‵ (fdies MLooked′.mir l19) ∷ ‵ (froom MLooked′.mir l18 0) ∷ ‵ (fdies MLooked′.mir l18) ∷ ‵ (froom MLooked′.mir l17 0) ∷ ‵ (fdies MLooked′.mir l17) ∷ ‵ (froom MLooked′.mir l16 0) ∷ ‵ (fdies MLooked′.mir l16) ∷ ‵ (froom (tyInt w32) l15 0) ∷ ‵ (fdies (tyInt w32) l15) ∷ ‵ (froom tyBool l14 0) ∷ ‵ (fdies tyBool l14) ∷ ‵ (froom MStateWords′.mir l13 0) ∷ ‵ (fdies MStateWords′.mir l13) ∷ ‵ (froom MSettingsWords′.mir l12 0) ∷ ‵ (fdies MSettingsWords′.mir l12) ∷ ‵ (froom MMessage′.mir l11 0) ∷ ‵ (fdies MMessage′.mir l11) ∷ ‵ (froom tyBool l10 0) ∷ ‵ (fdies tyBool l10) ∷ ‵ (froom MReceived′.mir l9 0) ∷ ‵ (fdies MReceived′.mir l9) ∷ ‵ (fat fullShare (tyRef (named 5) mut (pointee (R-AnswerWords .written))) l8 0 (vptr b8 o8)) ∷ ‵ (fdies (tyRef (named 5) mut (pointee (R-AnswerWords .written))) l8) ∷ ‵ (froom MStamp′.mir l7 0) ∷ ‵ (fdies MStamp′.mir l7) ∷ ‵ (froom (tyInt w64) l6 0) ∷ ‵ (fdies (tyInt w64) l6) ∷ ‵ (froom (sliceTy (tyRef (named 4) mut (tyInt w8))) l5 0) ∷ ‵ (fdies (sliceTy (tyRef (named 4) mut (tyInt w8))) l5) ∷ ‵ (froom (tyRef (named 3) mut (pointee (R-Watch .written))) l4 0) ∷ ‵ (fdies (tyRef (named 3) mut (pointee (R-Watch .written))) l4) ∷ ‵ (froom (sliceTy (tyRef (named 2) mut (pointee (R-MasterWords .written)))) l3 0) ∷ ‵ (fdies (sliceTy (tyRef (named 2) mut (pointee (R-MasterWords .written)))) l3) ∷ ‵ (froom (tyRef (named 1) mut (pointee (R-Servo .written))) l2 0) ∷ ‵ (fdies (tyRef (named 1) mut (pointee (R-Servo .written))) l2) ∷ ‵ (froom (tyRef (named 0) mut (pointee (R-UnitWords .written))) l1 0) ∷ ‵ (fdies (tyRef (named 0) mut (pointee (R-UnitWords .written))) l1) ∷ ‵ (froom tyUnit l0 0) ∷ ‵ (fdies tyUnit l0) ∷ []) (runs C Λ En i-21-1 qq)
+      from-21-1 : (qq : Kit-Post 𝓤 H) (ee : post 𝓤 H qq returnsᴼ ≡ atReturn 𝓤 H En Post returnsᴼ) (zs-8 : List ℕ) (len-9 : length zs-8 ≡ length h5) (p-4 : SReceived.Received) (w-3 : Val) (e-6 : (p-4 ≡ receivedBy (readOf h5)) × (zs-8 ≡ h5)) (is-7 : Is R-Received p-4 (w-3 ∷ [])) (left1 : Holds (not (p-4 .barred))) (good : Holds (not (not (eqb (length h3) 5)))) (u-24 : Val) (g-25 : Is R-SettingsWords (h1 .settings) (u-24 ∷ [])) (u-28 : Val) (g-29 : Is R-StateWords (h1 .state) (u-28 ∷ [])) (left2 : Holds (not (p-4 .announces))) (u-118 : Val) (g-119 : Is R-HalvesWords (h1 .halves) (u-118 ∷ [])) (u-122 : Val) (g-123 : Is R-DelaysWords (h1 .delays) (u-122 ∷ [])) (p-125 : STold.Told) (w-124 : Val) (e-126 : p-125 ≡ heardTold (h1 .settings) (h1 .state) (h1 .halves) (h1 .delays) (p-4 .message) h6 h7) (is-127 : Is R-Told p-125 (w-124 ∷ [])) (held5 : Holds (p-125 .barred)) → Sq W (‵ (fobs γ1 (R-UnitWords .coded .code h1)) ∷ ‵ (fbor κ1 (Body (mem R-UnitWords) b1 o1 γ1)) ∷ ‵ (flft κ1 q1) ∷ ‵ (MutSlice (named 4) κ5 R-u8 .own (x5 zs-8) ((sliceVal (b5, o5) (length h5)) ∷ [])) ∷ ‵ (flft κ5 q5) ∷ ‵ (flft κ8 q8) ∷ ‵ (flft κ4 q4) ∷ ‵ (flft κ3 q3) ∷ ‵ (flft κ2 q2) ∷ ‵ (ftrue) ∷ ‵ (fobs γ8 (R-AnswerWords .coded .code h8)) ∷ ‵ (fbor κ8 (Body (mem R-AnswerWords) b8 o8 γ8)) ∷ ‵ (R-Stamp .own h7 (u7 ∷ [])) ∷ ‵ (R-u64 .own h6 (u6 ∷ [])) ∷ ‵ (fobs γ4 (R-Watch .coded .code h4)) ∷ ‵ (fbor κ4 (Body (mem R-Watch) b4 o4 γ4)) ∷ ‵ (fobs γ3 (codedHoleys R-MasterWords .code (heres R-MasterWords h3))) ∷ ‵ (fbor κ3 (Held R-MasterWords (length h3) b3 o3 γ3)) ∷ ‵ (at-slice R-MasterWords (x3 h3) ((sliceVal (b3, o3) (length h3)) ∷ [])) ∷ ‵ (fobs γ2 (R-Servo .coded .code h2)) ∷ ‵ (fbor κ2 (Body (mem R-Servo) b2 o2 γ2)) ∷ ‵ (froom (tyRef erased mut (pointee (R-u8x128 .written))) l65 0) ∷ ‵ (fdies (tyRef erased mut (pointee (R-u8x128 .written))) l65) ∷ ‵ (froom (tyRef erased mut (pointee (R-i32x128 .written))) l64 0) ∷ ‵ (fdies (tyRef erased mut (pointee (R-i32x128 .written))) l64) ∷ ‵ (froom (tyRef erased mut (pointee (R-i64x128 .written))) l63 0) ∷ ‵ (fdies (tyRef erased mut (pointee (R-i64x128 .written))) l63) ∷ ‵ (froom MHead′.mir l62 0) ∷ ‵ (fdies MHead′.mir l62) ∷ ‵ (froom MAnswerWords′.mir l61 0) ∷ ‵ (fdies MAnswerWords′.mir l61) ∷ ‵ (froom MAnswerWords′.mir l60 0) ∷ ‵ (fdies MAnswerWords′.mir l60) ∷ ‵ (froom (tyRef erased mut (pointee (R-u8x128 .written))) l59 0) ∷ ‵ (fdies (tyRef erased mut (pointee (R-u8x128 .written))) l59) ∷ ‵ (froom (tyRef erased mut (pointee (R-i32x128 .written))) l58 0) ∷ ‵ (fdies (tyRef erased mut (pointee (R-i32x128 .written))) l58) ∷ ‵ (froom (tyRef erased mut (pointee (R-i64x128 .written))) l57 0) ∷ ‵ (fdies (tyRef erased mut (pointee (R-i64x128 .written))) l57) ∷ ‵ (froom MHead′.mir l56 0) ∷ ‵ (fdies MHead′.mir l56) ∷ ‵ (froom tyPtr l55 0) ∷ ‵ (fdies tyPtr l55) ∷ ‵ (froom tyPtr l54 0) ∷ ‵ (fdies tyPtr l54) ∷ ‵ (froom (tyInt w64) l53 0) ∷ ‵ (fdies (tyInt w64) l53) ∷ ‵ (froom MAnswerWords′.mir l52 0) ∷ ‵ (fdies MAnswerWords′.mir l52) ∷ ‵ (froom tyBool l51 0) ∷ ‵ (fdies tyBool l51) ∷ ‵ (froom tyPtr l50 0) ∷ ‵ (fdies tyPtr l50) ∷ ‵ (froom tyPtr l49 0) ∷ ‵ (fdies tyPtr l49) ∷ ‵ (froom tyPtr l48 0) ∷ ‵ (fdies tyPtr l48) ∷ ‵ (froom tyPtr l47 0) ∷ ‵ (fdies tyPtr l47) ∷ ‵ (froom MMasterWords′.mir l46 0) ∷ ‵ (fdies MMasterWords′.mir l46) ∷ ‵ (froom tyPtr l45 0) ∷ ‵ (fdies tyPtr l45) ∷ ‵ (froom MAnswerWords′.mir l44 0) ∷ ‵ (fdies MAnswerWords′.mir l44) ∷ ‵ (froom (tyInt w64) l43 0) ∷ ‵ (fdies (tyInt w64) l43) ∷ ‵ (froom MAnswerWords′.mir l42 0) ∷ ‵ (fdies MAnswerWords′.mir l42) ∷ ‵ (froom tyBool l41 0) ∷ ‵ (fdies tyBool l41) ∷ ‵ (froom (sliceTy (tyRef erased mut (tyInt w8))) l40 0) ∷ ‵ (fdies (sliceTy (tyRef erased mut (tyInt w8))) l40) ∷ ‵ (froom (tyRef erased mut (tyInt w8)) l39 0) ∷ ‵ (fdies (tyRef erased mut (tyInt w8)) l39) ∷ ‵ (froom (tyInt w16) l38 0) ∷ ‵ (fdies (tyInt w16) l38) ∷ ‵ (froom (tyInt w8) l37 0) ∷ ‵ (fdies (tyInt w8) l37) ∷ ‵ (froom MServo′.mir l36 0) ∷ ‵ (fdies MServo′.mir l36) ∷ ‵ (froom tyBool l35 0) ∷ ‵ (fdies tyBool l35) ∷ ‵ (froom tyBool l34 0) ∷ ‵ (fdies tyBool l34) ∷ ‵ (froom MAccepted′.mir l33 0) ∷ ‵ (fdies MAccepted′.mir l33) ∷ ‵ (froom MServo′.mir l32 0) ∷ ‵ (fdies MServo′.mir l32) ∷ ‵ (froom tyBool l31 0) ∷ ‵ (fdies tyBool l31) ∷ ‵ (fat fullShare MTold′.mir l30 0 (vstruct (ofList ((parts-Told p-125 w-124 is-127) .pu0 ∷ (parts-Told p-125 w-124 is-127) .pu1 ∷ (parts-Told p-125 w-124 is-127) .pu2 ∷ (parts-Told p-125 w-124 is-127) .pu3 ∷ (parts-Told p-125 w-124 is-127) .pu4 ∷ (parts-Told p-125 w-124 is-127) .pu5 ∷ (parts-Told p-125 w-124 is-127) .pu6 ∷ (parts-Told p-125 w-124 is-127) .pu7 ∷ (parts-Told p-125 w-124 is-127) .pu8 ∷ (parts-Told p-125 w-124 is-127) .pu9 ∷ [])))) ∷ ‵ (fdies MTold′.mir l30) ∷ ‵ (froom MDelaysWords′.mir l29 0) ∷ ‵ (fdies MDelaysWords′.mir l29) ∷ ‵ (froom MHalvesWords′.mir l28 0) ∷ ‵ (fdies MHalvesWords′.mir l28) ∷ ‵ (froom MEmptied′.mir l27 0) ∷ ‵ (fdies MEmptied′.mir l27) ∷ ‵ (froom tyBool l26 0) ∷ ‵ (fdies tyBool l26) ∷ ‵ (froom MHeld′.mir l25 0) ∷ ‵ (fdies MHeld′.mir l25) ∷ ‵ (froom MMasterWords′.mir l24 0) ∷ ‵ (fdies MMasterWords′.mir l24) ∷ ‵ (froom (tyInt w64) l23 0) ∷ ‵ (fdies (tyInt w64) l23) ∷ ‵ (froom tyBool l22 0) ∷ ‵ (fdies tyBool l22) ∷ ‵ (froom MSeat′.mir l21 0) ∷ ‵ (fdies MSeat′.mir l21) ∷ ‵ (froom MLooked′.mir l20 0) ∷ ‵ (fdies MLooked′.mir l20) ∷ ‵ (froom MLooked′.mir l19 0) ∷ ‵ (fdies MLooked′.mir l19) ∷ ‵ (froom MLooked′.mir l18 0) ∷ ‵ (fdies MLooked′.mir l18) ∷ ‵ (froom MLooked′.mir l17 0) ∷ ‵ (fdies MLooked′.mir l17) ∷ ‵ (froom MLooked′.mir l16 0) ∷ ‵ (fdies MLooked′.mir l16) ∷ ‵ (froom (tyInt w32) l15 0) ∷ ‵ (fdies (tyInt w32) l15) ∷ ‵ (froom tyBool l14 0) ∷ ‵ (fdies tyBool l14) ∷ ‵ (froom MStateWords′.mir l13 0) ∷ ‵ (fdies MStateWords′.mir l13) ∷ ‵ (froom MSettingsWords′.mir l12 0) ∷ ‵ (fdies MSettingsWords′.mir l12) ∷ ‵ (froom MMessage′.mir l11 0) ∷ ‵ (fdies MMessage′.mir l11) ∷ ‵ (froom tyBool l10 0) ∷ ‵ (fdies tyBool l10) ∷ ‵ (froom MReceived′.mir l9 0) ∷ ‵ (fdies MReceived′.mir l9) ∷ ‵ (fat fullShare (tyRef (named 5) mut (pointee (R-AnswerWords .written))) l8 0 (vptr b8 o8)) ∷ ‵ (fdies (tyRef (named 5) mut (pointee (R-AnswerWords .written))) l8) ∷ ‵ (froom MStamp′.mir l7 0) ∷ ‵ (fdies MStamp′.mir l7) ∷ ‵ (froom (tyInt w64) l6 0) ∷ ‵ (fdies (tyInt w64) l6) ∷ ‵ (froom (sliceTy (tyRef (named 4) mut (tyInt w8))) l5 0) ∷ ‵ (fdies (sliceTy (tyRef (named 4) mut (tyInt w8))) l5) ∷ ‵ (froom (tyRef (named 3) mut (pointee (R-Watch .written))) l4 0) ∷ ‵ (fdies (tyRef (named 3) mut (pointee (R-Watch .written))) l4) ∷ ‵ (froom (sliceTy (tyRef (named 2) mut (pointee (R-MasterWords .written)))) l3 0) ∷ ‵ (fdies (sliceTy (tyRef (named 2) mut (pointee (R-MasterWords .written)))) l3) ∷ ‵ (froom (tyRef (named 1) mut (pointee (R-Servo .written))) l2 0) ∷ ‵ (fdies (tyRef (named 1) mut (pointee (R-Servo .written))) l2) ∷ ‵ (froom (tyRef (named 0) mut (pointee (R-UnitWords .written))) l1 0) ∷ ‵ (fdies (tyRef (named 0) mut (pointee (R-UnitWords .written))) l1) ∷ ‵ (froom tyUnit l0 0) ∷ ‵ (fdies tyUnit l0) ∷ []) (runs C Λ En i-21-1 qq)
       from-21-1 qq ee zs-8 len-9 p-4 w-3 e-6 is-7 left1 good u-24 g-25 u-28 g-29 left2 u-118 g-119 u-122 g-123 p-125 w-124 e-126 is-127 held5 =
-          rewrite ! 83 (λ (u : Val). ‵ (fat fullShare MTold′.mir l30 0 u)) (sym (parts-Told p-125 w-124 is-127 .whole-is)) refl $
+          rewrite ! 91 (λ (u : Val). ‵ (fat fullShare MTold′.mir l30 0 u)) (sym (parts-Told p-125 w-124 is-127 .whole-is)) refl $
           use0 W (raw (C-untold 𝓤 H A at-mem run .pre (to-untold p-125 w-124))) (goes-untold p-125 w-124 is-127) $
-          calls-at ! fm (C-untold 𝓤 H A at-mem run) known-untold (to-untold p-125 w-124) (and-then ! (load ! (from ! (stop !)) (look ! 84 refl)) (no-more !)) (λ w-128.
+          calls-at ! fm (C-untold 𝓤 H A at-mem run) known-untold (to-untold p-125 w-124) (and-then ! (load ! (from ! (stop !)) (look ! 92 refl)) (no-more !)) (λ w-128.
           use1 W (later (some (λ (p-129 : SAnswerWords.AnswerWords). (‵ ftrue ⊛ ‵ (R-AnswerWords .own p-129 (w-128 ∷ []))) ⊛ raw (ensured 𝓤 H A f-untold.ended (f-untold.clauses 𝓤 H A at-mem run) tt (p-125, tt) tt p-129)))) (id⊢ 𝓤 _) $ await ! tt $
           pick ! (λ p-129.
           split ! $
@@ -2527,29 +2527,29 @@ module _ {M : Type 1} (𝓤 : URA M) (H : Heap 𝓤) (A : Atoms 𝓤) (W : Given
           peeks ! R-AnswerWords (Is R-AnswerWords) (shows 𝓤 H A R-AnswerWords) h8 vs-132 (λ g-133.
           rewrite ! 0 (λ (us : List Val). ‵ (R-AnswerWords .own h8 us)) (lone-AnswerWords h8 vs-132 g-133) refl $
           rewrite ! 1 (λ (us : List Val). ‵ (cellAt fullShare (R-AnswerWords .mir) us b8 o8)) (lone-AnswerWords h8 vs-132 g-133) refl $
-          assigns ! (of-opd ! (load ! (from ! (stop !)) (look ! 33 refl))) (from ! (hop ! (look ! 129 refl) (stop !))) (store-raw ! 1 refl (lawful-AnswerWords 𝓤 H A W .typed p-129 _ is-131 .0)) $
+          assigns ! (of-opd ! (load ! (from ! (stop !)) (look ! 33 refl))) (from ! (hop ! (look ! 137 refl) (stop !))) (store-raw ! 1 refl (lawful-AnswerWords 𝓤 H A W .typed p-129 _ is-131 .0)) $
           drop ! $
           owned ! R-AnswerWords (Is R-AnswerWords) (makes-AnswerWords 𝓤 H A W) p-129 _ is-131 $
           move ! (1 ∷ 0 ∷ 2 ∷ 3 ∷ 4 ∷ []) $
           closes ! tt R-AnswerWords p-129 (w-128 ∷ []) b8 o8 $
-          forget ! 127 refl $ forget ! 83 refl $ forget ! 31 refl $
+          forget ! 135 refl $ forget ! 91 refl $ forget ! 31 refl $
           from-21-3 qq ee zs-8 len-9 p-4 w-3 e-6 is-7 left1 good u-24 g-25 u-28 g-29 left2 u-118 g-119 u-122 g-123 p-125 w-124 e-126 is-127 held5 p-129 w-128 e-130 is-131))))))
 
-      from-32-6 : (qq : Kit-Post 𝓤 H) (ee : post 𝓤 H qq returnsᴼ ≡ atReturn 𝓤 H En Post returnsᴼ) (zs-8 : List ℕ) (len-9 : length zs-8 ≡ length h5) (p-4 : SReceived.Received) (w-3 : Val) (e-6 : (p-4 ≡ receivedBy (readOf h5)) × (zs-8 ≡ h5)) (is-7 : Is R-Received p-4 (w-3 ∷ [])) (left1 : Holds (not (p-4 .barred))) (good : Holds (not (not (eqb (length h3) 5)))) (u-24 : Val) (g-25 : Is R-SettingsWords (h1 .settings) (u-24 ∷ [])) (u-28 : Val) (g-29 : Is R-StateWords (h1 .state) (u-28 ∷ [])) (left2 : Holds (not (p-4 .announces))) (u-118 : Val) (g-119 : Is R-HalvesWords (h1 .halves) (u-118 ∷ [])) (u-122 : Val) (g-123 : Is R-DelaysWords (h1 .delays) (u-122 ∷ [])) (p-125 : STold.Told) (w-124 : Val) (e-126 : p-125 ≡ heardTold (h1 .settings) (h1 .state) (h1 .halves) (h1 .delays) (p-4 .message) h6 h7) (is-127 : Is R-Told p-125 (w-124 ∷ [])) (left5 : Holds (not (p-125 .barred))) (u-142 : Val) (g-143 : Is R-Servo h2 (u-142 ∷ [])) (p-145 : SServo.Servo) (w-144 : Val) (e-146 : p-145 ≡ servoAfter (h1 .settings) h2 (p-125 .found) (p-125 .steers) (p-125 .wipes)) (is-147 : Is R-Servo p-145 (w-144 ∷ [])) (p-151 : SAnswerWords.AnswerWords) (w-150 : Val) (e-152 : p-151 ≡ outputSaid (p-125 .code) (p-125 .sequence) (p-125 .found) (p-125 .steers) p-145) (is-153 : Is R-AnswerWords p-151 (w-150 ∷ [])) (held6 : Holds (p-125 .wipes)) (zs-169 : (List ℤ)) (zs-170 : (List ℤ)) (zs-171 : (List ℕ)) (p-165 : SHead.Head) (w-164 : Val) (e-167 : (p-165 ≡ freshWatch .head) × (zs-169 ≡ freshWatch .references) × (zs-170 ≡ freshWatch .ys) × (zs-171 ≡ freshWatch .marks)) (is-168 : Is R-Head p-165 (w-164 ∷ [])) → Sq W (‵ (fobs γ4 (R-Watch .coded .code (with-Watch-0 (all-Watch (h4 .head) zs-169 zs-170 zs-171) p-165))) ∷ ‵ (fbor κ4 (Body (mem R-Watch) b4 o4 γ4)) ∷ ‵ (flft κ4 q4) ∷ ‵ (fobs γ8 (R-AnswerWords .coded .code p-151)) ∷ ‵ (fbor κ8 (Body (mem R-AnswerWords) b8 o8 γ8)) ∷ ‵ (flft κ8 q8) ∷ ‵ (fobs γ2 (R-Servo .coded .code p-145)) ∷ ‵ (fbor κ2 (Body (mem R-Servo) b2 o2 γ2)) ∷ ‵ (flft κ2 q2) ∷ ‵ (fobs γ1 (R-UnitWords .coded .code (with-UnitWords-3 (with-UnitWords-2 (with-UnitWords-1 h1 (p-125 .state)) (p-125 .halves)) (p-125 .delays)))) ∷ ‵ (fbor κ1 (Body (mem R-UnitWords) b1 o1 γ1)) ∷ ‵ (flft κ1 q1) ∷ ‵ (MutSlice (named 4) κ5 R-u8 .own (x5 zs-8) ((sliceVal (b5, o5) (length h5)) ∷ [])) ∷ ‵ (flft κ5 q5) ∷ ‵ (flft κ3 q3) ∷ ‵ (ftrue) ∷ ‵ (R-Stamp .own h7 (u7 ∷ [])) ∷ ‵ (R-u64 .own h6 (u6 ∷ [])) ∷ ‵ (fobs γ3 (codedHoleys R-MasterWords .code (heres R-MasterWords h3))) ∷ ‵ (fbor κ3 (Held R-MasterWords (length h3) b3 o3 γ3)) ∷ ‵ (at-slice R-MasterWords (x3 h3) ((sliceVal (b3, o3) (length h3)) ∷ [])) ∷ ‵ (froom (tyRef erased mut (pointee (R-u8x128 .written))) l61 0) ∷ ‵ (fdies (tyRef erased mut (pointee (R-u8x128 .written))) l61) ∷ ‵ (froom (tyRef erased mut (pointee (R-i32x128 .written))) l60 0) ∷ ‵ (fdies (tyRef erased mut (pointee (R-i32x128 .written))) l60) ∷ ‵ (froom (tyRef erased mut (pointee (R-i64x128 .written))) l59 0) ∷ ‵ (fdies (tyRef erased mut (pointee (R-i64x128 .written))) l59) ∷ ‵ (froom MHead′.mir l58 0) ∷ ‵ (fdies MHead′.mir l58) ∷ ‵ (froom MAnswerWords′.mir l57 0) ∷ ‵ (fdies MAnswerWords′.mir l57) ∷ ‵ (froom MAnswerWords′.mir l56 0) ∷ ‵ (fdies MAnswerWords′.mir l56) ∷ ‵ (froom (tyRef erased mut (pointee (R-u8x128 .written))) l55 0) ∷ ‵ (fdies (tyRef erased mut (pointee (R-u8x128 .written))) l55) ∷ ‵ (froom (tyRef erased mut (pointee (R-i32x128 .written))) l54 0) ∷ ‵ (fdies (tyRef erased mut (pointee (R-i32x128 .written))) l54) ∷ ‵ (froom (tyRef erased mut (pointee (R-i64x128 .written))) l53 0) ∷ ‵ (fdies (tyRef erased mut (pointee (R-i64x128 .written))) l53) ∷ ‵ (froom MHead′.mir l52 0) ∷ ‵ (fdies MHead′.mir l52) ∷ ‵ (froom tyPtr l51 0) ∷ ‵ (fdies tyPtr l51) ∷ ‵ (froom tyPtr l50 0) ∷ ‵ (fdies tyPtr l50) ∷ ‵ (froom (tyInt w64) l49 0) ∷ ‵ (fdies (tyInt w64) l49) ∷ ‵ (froom MAnswerWords′.mir l48 0) ∷ ‵ (fdies MAnswerWords′.mir l48) ∷ ‵ (froom tyBool l47 0) ∷ ‵ (fdies tyBool l47) ∷ ‵ (froom tyPtr l46 0) ∷ ‵ (fdies tyPtr l46) ∷ ‵ (froom tyPtr l45 0) ∷ ‵ (fdies tyPtr l45) ∷ ‵ (froom tyPtr l44 0) ∷ ‵ (fdies tyPtr l44) ∷ ‵ (froom tyPtr l43 0) ∷ ‵ (fdies tyPtr l43) ∷ ‵ (froom MMasterWords′.mir l42 0) ∷ ‵ (fdies MMasterWords′.mir l42) ∷ ‵ (froom tyPtr l41 0) ∷ ‵ (fdies tyPtr l41) ∷ ‵ (froom MAnswerWords′.mir l40 0) ∷ ‵ (fdies MAnswerWords′.mir l40) ∷ ‵ (froom (tyInt w64) l39 0) ∷ ‵ (fdies (tyInt w64) l39) ∷ ‵ (froom MAnswerWords′.mir l38 0) ∷ ‵ (fdies MAnswerWords′.mir l38) ∷ ‵ (froom tyBool l37 0) ∷ ‵ (fdies tyBool l37) ∷ ‵ (froom (sliceTy (tyRef erased mut (tyInt w8))) l36 0) ∷ ‵ (fdies (sliceTy (tyRef erased mut (tyInt w8))) l36) ∷ ‵ (froom (tyRef erased mut (tyInt w8)) l35 0) ∷ ‵ (fdies (tyRef erased mut (tyInt w8)) l35) ∷ ‵ (froom tyBool l34 0) ∷ ‵ (fdies tyBool l34) ∷ ‵ (froom MServo′.mir l33 0) ∷ ‵ (fdies MServo′.mir l33) ∷ ‵ (froom MServo′.mir l32 0) ∷ ‵ (fdies MServo′.mir l32) ∷ ‵ (froom tyBool l31 0) ∷ ‵ (fdies tyBool l31) ∷ ‵ (froom MTold′.mir l30 0) ∷ ‵ (fdies MTold′.mir l30) ∷ ‵ (froom MDelaysWords′.mir l29 0) ∷ ‵ (fdies MDelaysWords′.mir l29) ∷ ‵ (froom MHalvesWords′.mir l28 0) ∷ ‵ (fdies MHalvesWords′.mir l28) ∷ ‵ (froom MEmptied′.mir l27 0) ∷ ‵ (fdies MEmptied′.mir l27) ∷ ‵ (froom tyBool l26 0) ∷ ‵ (fdies tyBool l26) ∷ ‵ (froom MHeld′.mir l25 0) ∷ ‵ (fdies MHeld′.mir l25) ∷ ‵ (froom MMasterWords′.mir l24 0) ∷ ‵ (fdies MMasterWords′.mir l24) ∷ ‵ (froom (tyInt w64) l23 0) ∷ ‵ (fdies (tyInt w64) l23) ∷ ‵ (froom tyBool l22 0) ∷ ‵ (fdies tyBool l22) ∷ ‵ (froom MSeat′.mir l21 0) ∷ ‵ (fdies MSeat′.mir l21) ∷ ‵ (froom MLooked′.mir l20 0) ∷ ‵ (fdies MLooked′.mir l20) ∷ ‵ (froom MLooked′.mir l19 0) ∷ ‵ (fdies MLooked′.mir l19) ∷ ‵ (froom MLooked′.mir l18 0) ∷ ‵ (fdies MLooked′.mir l18) ∷ ‵ (froom MLooked′.mir l17 0) ∷ ‵ (fdies MLooked′.mir l17) ∷ ‵ (froom MLooked′.mir l16 0) ∷ ‵ (fdies MLooked′.mir l16) ∷ ‵ (froom (tyInt w32) l15 0) ∷ ‵ (fdies (tyInt w32) l15) ∷ ‵ (froom tyBool l14 0) ∷ ‵ (fdies tyBool l14) ∷ ‵ (froom MStateWords′.mir l13 0) ∷ ‵ (fdies MStateWords′.mir l13) ∷ ‵ (froom MSettingsWords′.mir l12 0) ∷ ‵ (fdies MSettingsWords′.mir l12) ∷ ‵ (froom MMessage′.mir l11 0) ∷ ‵ (fdies MMessage′.mir l11) ∷ ‵ (froom tyBool l10 0) ∷ ‵ (fdies tyBool l10) ∷ ‵ (froom MReceived′.mir l9 0) ∷ ‵ (fdies MReceived′.mir l9) ∷ ‵ (froom (tyRef (named 5) mut (pointee (R-AnswerWords .written))) l8 0) ∷ ‵ (fdies (tyRef (named 5) mut (pointee (R-AnswerWords .written))) l8) ∷ ‵ (froom MStamp′.mir l7 0) ∷ ‵ (fdies MStamp′.mir l7) ∷ ‵ (froom (tyInt w64) l6 0) ∷ ‵ (fdies (tyInt w64) l6) ∷ ‵ (froom (sliceTy (tyRef (named 4) mut (tyInt w8))) l5 0) ∷ ‵ (fdies (sliceTy (tyRef (named 4) mut (tyInt w8))) l5) ∷ ‵ (froom (tyRef (named 3) mut (pointee (R-Watch .written))) l4 0) ∷ ‵ (fdies (tyRef (named 3) mut (pointee (R-Watch .written))) l4) ∷ ‵ (froom (sliceTy (tyRef (named 2) mut (pointee (R-MasterWords .written)))) l3 0) ∷ ‵ (fdies (sliceTy (tyRef (named 2) mut (pointee (R-MasterWords .written)))) l3) ∷ ‵ (froom (tyRef (named 1) mut (pointee (R-Servo .written))) l2 0) ∷ ‵ (fdies (tyRef (named 1) mut (pointee (R-Servo .written))) l2) ∷ ‵ (froom (tyRef (named 0) mut (pointee (R-UnitWords .written))) l1 0) ∷ ‵ (fdies (tyRef (named 0) mut (pointee (R-UnitWords .written))) l1) ∷ ‵ (froom tyUnit l0 0) ∷ ‵ (fdies tyUnit l0) ∷ []) (runs C Λ En i-32-6 qq)
-      from-32-6 qq ee zs-8 len-9 p-4 w-3 e-6 is-7 left1 good u-24 g-25 u-28 g-29 left2 u-118 g-119 u-122 g-123 p-125 w-124 e-126 is-127 left5 u-142 g-143 p-145 w-144 e-146 is-147 p-151 w-150 e-152 is-153 held6 zs-169 zs-170 zs-171 p-165 w-164 e-167 is-168 =
-          assigns ! (of-opd ! (unit-lit !)) (from ! (stop !)) (init ! 143 refl (tt, tt)) $
-          returns-within ! Post ee (look ! 143 refl) $
-          forget ! 143 refl $
-          move ! (143 ∷ 144 ∷ 141 ∷ 142 ∷ 139 ∷ 140 ∷ 137 ∷ 138 ∷ 135 ∷ 136 ∷ 133 ∷ 134 ∷ 131 ∷ 132 ∷ 129 ∷ 130 ∷ 127 ∷ 128 ∷ 125 ∷ 126 ∷ 123 ∷ 124 ∷ 121 ∷ 122 ∷ 119 ∷ 120 ∷ 117 ∷ 118 ∷ 115 ∷ 116 ∷ 113 ∷ 114 ∷ 111 ∷ 112 ∷ 109 ∷ 110 ∷ 107 ∷ 108 ∷ 105 ∷ 106 ∷ 103 ∷ 104 ∷ 101 ∷ 102 ∷ 99 ∷ 100 ∷ 97 ∷ 98 ∷ 95 ∷ 96 ∷ 93 ∷ 94 ∷ 91 ∷ 92 ∷ 89 ∷ 90 ∷ 87 ∷ 88 ∷ 85 ∷ 86 ∷ 83 ∷ 84 ∷ 81 ∷ 82 ∷ 79 ∷ 80 ∷ 77 ∷ 78 ∷ 75 ∷ 76 ∷ 73 ∷ 74 ∷ 71 ∷ 72 ∷ 69 ∷ 70 ∷ 67 ∷ 68 ∷ 65 ∷ 66 ∷ 63 ∷ 64 ∷ 61 ∷ 62 ∷ 59 ∷ 60 ∷ 57 ∷ 58 ∷ 55 ∷ 56 ∷ 53 ∷ 54 ∷ 51 ∷ 52 ∷ 49 ∷ 50 ∷ 47 ∷ 48 ∷ 45 ∷ 46 ∷ 43 ∷ 44 ∷ 41 ∷ 42 ∷ 39 ∷ 40 ∷ 37 ∷ 38 ∷ 35 ∷ 36 ∷ 33 ∷ 34 ∷ 31 ∷ 32 ∷ 29 ∷ 30 ∷ 27 ∷ 28 ∷ 25 ∷ 26 ∷ 23 ∷ 24 ∷ 21 ∷ 22 ∷ []) $
+      from-36-6 : (qq : Kit-Post 𝓤 H) (ee : post 𝓤 H qq returnsᴼ ≡ atReturn 𝓤 H En Post returnsᴼ) (zs-8 : List ℕ) (len-9 : length zs-8 ≡ length h5) (p-4 : SReceived.Received) (w-3 : Val) (e-6 : (p-4 ≡ receivedBy (readOf h5)) × (zs-8 ≡ h5)) (is-7 : Is R-Received p-4 (w-3 ∷ [])) (left1 : Holds (not (p-4 .barred))) (good : Holds (not (not (eqb (length h3) 5)))) (u-24 : Val) (g-25 : Is R-SettingsWords (h1 .settings) (u-24 ∷ [])) (u-28 : Val) (g-29 : Is R-StateWords (h1 .state) (u-28 ∷ [])) (left2 : Holds (not (p-4 .announces))) (u-118 : Val) (g-119 : Is R-HalvesWords (h1 .halves) (u-118 ∷ [])) (u-122 : Val) (g-123 : Is R-DelaysWords (h1 .delays) (u-122 ∷ [])) (p-125 : STold.Told) (w-124 : Val) (e-126 : p-125 ≡ heardTold (h1 .settings) (h1 .state) (h1 .halves) (h1 .delays) (p-4 .message) h6 h7) (is-127 : Is R-Told p-125 (w-124 ∷ [])) (left5 : Holds (not (p-125 .barred))) (u-142 : Val) (g-143 : Is R-Servo h2 (u-142 ∷ [])) (p-145 : SServo.Servo) (w-144 : Val) (e-146 : p-145 ≡ servoAfter (h1 .settings) h2 (p-125 .found) (p-125 .steers) (p-125 .wipes)) (is-147 : Is R-Servo p-145 (w-144 ∷ [])) (p-151 : SAnswerWords.AnswerWords) (w-150 : Val) (e-152 : p-151 ≡ outputSaid (p-125 .code) (p-125 .sequence) (p-125 .found) (p-125 .steers) p-145) (is-153 : Is R-AnswerWords p-151 (w-150 ∷ [])) (held6 : Holds (p-125 .wipes)) (zs-169 : (List ℤ)) (zs-170 : (List ℤ)) (zs-171 : (List ℕ)) (p-165 : SHead.Head) (w-164 : Val) (e-167 : (p-165 ≡ freshWatch .head) × (zs-169 ≡ freshWatch .references) × (zs-170 ≡ freshWatch .ys) × (zs-171 ≡ freshWatch .marks)) (is-168 : Is R-Head p-165 (w-164 ∷ [])) → Sq W (‵ (fobs γ4 (R-Watch .coded .code (with-Watch-0 (all-Watch (h4 .head) zs-169 zs-170 zs-171) p-165))) ∷ ‵ (fbor κ4 (Body (mem R-Watch) b4 o4 γ4)) ∷ ‵ (flft κ4 q4) ∷ ‵ (fobs γ8 (R-AnswerWords .coded .code p-151)) ∷ ‵ (fbor κ8 (Body (mem R-AnswerWords) b8 o8 γ8)) ∷ ‵ (flft κ8 q8) ∷ ‵ (fobs γ2 (R-Servo .coded .code p-145)) ∷ ‵ (fbor κ2 (Body (mem R-Servo) b2 o2 γ2)) ∷ ‵ (flft κ2 q2) ∷ ‵ (fobs γ1 (R-UnitWords .coded .code (with-UnitWords-3 (with-UnitWords-2 (with-UnitWords-1 h1 (p-125 .state)) (p-125 .halves)) (p-125 .delays)))) ∷ ‵ (fbor κ1 (Body (mem R-UnitWords) b1 o1 γ1)) ∷ ‵ (flft κ1 q1) ∷ ‵ (MutSlice (named 4) κ5 R-u8 .own (x5 zs-8) ((sliceVal (b5, o5) (length h5)) ∷ [])) ∷ ‵ (flft κ5 q5) ∷ ‵ (flft κ3 q3) ∷ ‵ (ftrue) ∷ ‵ (R-Stamp .own h7 (u7 ∷ [])) ∷ ‵ (R-u64 .own h6 (u6 ∷ [])) ∷ ‵ (fobs γ3 (codedHoleys R-MasterWords .code (heres R-MasterWords h3))) ∷ ‵ (fbor κ3 (Held R-MasterWords (length h3) b3 o3 γ3)) ∷ ‵ (at-slice R-MasterWords (x3 h3) ((sliceVal (b3, o3) (length h3)) ∷ [])) ∷ ‵ (froom (tyRef erased mut (pointee (R-u8x128 .written))) l65 0) ∷ ‵ (fdies (tyRef erased mut (pointee (R-u8x128 .written))) l65) ∷ ‵ (froom (tyRef erased mut (pointee (R-i32x128 .written))) l64 0) ∷ ‵ (fdies (tyRef erased mut (pointee (R-i32x128 .written))) l64) ∷ ‵ (froom (tyRef erased mut (pointee (R-i64x128 .written))) l63 0) ∷ ‵ (fdies (tyRef erased mut (pointee (R-i64x128 .written))) l63) ∷ ‵ (froom MHead′.mir l62 0) ∷ ‵ (fdies MHead′.mir l62) ∷ ‵ (froom MAnswerWords′.mir l61 0) ∷ ‵ (fdies MAnswerWords′.mir l61) ∷ ‵ (froom MAnswerWords′.mir l60 0) ∷ ‵ (fdies MAnswerWords′.mir l60) ∷ ‵ (froom (tyRef erased mut (pointee (R-u8x128 .written))) l59 0) ∷ ‵ (fdies (tyRef erased mut (pointee (R-u8x128 .written))) l59) ∷ ‵ (froom (tyRef erased mut (pointee (R-i32x128 .written))) l58 0) ∷ ‵ (fdies (tyRef erased mut (pointee (R-i32x128 .written))) l58) ∷ ‵ (froom (tyRef erased mut (pointee (R-i64x128 .written))) l57 0) ∷ ‵ (fdies (tyRef erased mut (pointee (R-i64x128 .written))) l57) ∷ ‵ (froom MHead′.mir l56 0) ∷ ‵ (fdies MHead′.mir l56) ∷ ‵ (froom tyPtr l55 0) ∷ ‵ (fdies tyPtr l55) ∷ ‵ (froom tyPtr l54 0) ∷ ‵ (fdies tyPtr l54) ∷ ‵ (froom (tyInt w64) l53 0) ∷ ‵ (fdies (tyInt w64) l53) ∷ ‵ (froom MAnswerWords′.mir l52 0) ∷ ‵ (fdies MAnswerWords′.mir l52) ∷ ‵ (froom tyBool l51 0) ∷ ‵ (fdies tyBool l51) ∷ ‵ (froom tyPtr l50 0) ∷ ‵ (fdies tyPtr l50) ∷ ‵ (froom tyPtr l49 0) ∷ ‵ (fdies tyPtr l49) ∷ ‵ (froom tyPtr l48 0) ∷ ‵ (fdies tyPtr l48) ∷ ‵ (froom tyPtr l47 0) ∷ ‵ (fdies tyPtr l47) ∷ ‵ (froom MMasterWords′.mir l46 0) ∷ ‵ (fdies MMasterWords′.mir l46) ∷ ‵ (froom tyPtr l45 0) ∷ ‵ (fdies tyPtr l45) ∷ ‵ (froom MAnswerWords′.mir l44 0) ∷ ‵ (fdies MAnswerWords′.mir l44) ∷ ‵ (froom (tyInt w64) l43 0) ∷ ‵ (fdies (tyInt w64) l43) ∷ ‵ (froom MAnswerWords′.mir l42 0) ∷ ‵ (fdies MAnswerWords′.mir l42) ∷ ‵ (froom tyBool l41 0) ∷ ‵ (fdies tyBool l41) ∷ ‵ (froom (sliceTy (tyRef erased mut (tyInt w8))) l40 0) ∷ ‵ (fdies (sliceTy (tyRef erased mut (tyInt w8))) l40) ∷ ‵ (froom (tyRef erased mut (tyInt w8)) l39 0) ∷ ‵ (fdies (tyRef erased mut (tyInt w8)) l39) ∷ ‵ (froom (tyInt w16) l38 0) ∷ ‵ (fdies (tyInt w16) l38) ∷ ‵ (froom (tyInt w8) l37 0) ∷ ‵ (fdies (tyInt w8) l37) ∷ ‵ (froom MServo′.mir l36 0) ∷ ‵ (fdies MServo′.mir l36) ∷ ‵ (froom tyBool l35 0) ∷ ‵ (fdies tyBool l35) ∷ ‵ (froom tyBool l34 0) ∷ ‵ (fdies tyBool l34) ∷ ‵ (froom MAccepted′.mir l33 0) ∷ ‵ (fdies MAccepted′.mir l33) ∷ ‵ (froom MServo′.mir l32 0) ∷ ‵ (fdies MServo′.mir l32) ∷ ‵ (froom tyBool l31 0) ∷ ‵ (fdies tyBool l31) ∷ ‵ (froom MTold′.mir l30 0) ∷ ‵ (fdies MTold′.mir l30) ∷ ‵ (froom MDelaysWords′.mir l29 0) ∷ ‵ (fdies MDelaysWords′.mir l29) ∷ ‵ (froom MHalvesWords′.mir l28 0) ∷ ‵ (fdies MHalvesWords′.mir l28) ∷ ‵ (froom MEmptied′.mir l27 0) ∷ ‵ (fdies MEmptied′.mir l27) ∷ ‵ (froom tyBool l26 0) ∷ ‵ (fdies tyBool l26) ∷ ‵ (froom MHeld′.mir l25 0) ∷ ‵ (fdies MHeld′.mir l25) ∷ ‵ (froom MMasterWords′.mir l24 0) ∷ ‵ (fdies MMasterWords′.mir l24) ∷ ‵ (froom (tyInt w64) l23 0) ∷ ‵ (fdies (tyInt w64) l23) ∷ ‵ (froom tyBool l22 0) ∷ ‵ (fdies tyBool l22) ∷ ‵ (froom MSeat′.mir l21 0) ∷ ‵ (fdies MSeat′.mir l21) ∷ ‵ (froom MLooked′.mir l20 0) ∷ ‵ (fdies MLooked′.mir l20) ∷ ‵ (froom MLooked′.mir l19 0) ∷ ‵ (fdies MLooked′.mir l19) ∷ ‵ (froom MLooked′.mir l18 0) ∷ ‵ (fdies MLooked′.mir l18) ∷ ‵ (froom MLooked′.mir l17 0) ∷ ‵ (fdies MLooked′.mir l17) ∷ ‵ (froom MLooked′.mir l16 0) ∷ ‵ (fdies MLooked′.mir l16) ∷ ‵ (froom (tyInt w32) l15 0) ∷ ‵ (fdies (tyInt w32) l15) ∷ ‵ (froom tyBool l14 0) ∷ ‵ (fdies tyBool l14) ∷ ‵ (froom MStateWords′.mir l13 0) ∷ ‵ (fdies MStateWords′.mir l13) ∷ ‵ (froom MSettingsWords′.mir l12 0) ∷ ‵ (fdies MSettingsWords′.mir l12) ∷ ‵ (froom MMessage′.mir l11 0) ∷ ‵ (fdies MMessage′.mir l11) ∷ ‵ (froom tyBool l10 0) ∷ ‵ (fdies tyBool l10) ∷ ‵ (froom MReceived′.mir l9 0) ∷ ‵ (fdies MReceived′.mir l9) ∷ ‵ (froom (tyRef (named 5) mut (pointee (R-AnswerWords .written))) l8 0) ∷ ‵ (fdies (tyRef (named 5) mut (pointee (R-AnswerWords .written))) l8) ∷ ‵ (froom MStamp′.mir l7 0) ∷ ‵ (fdies MStamp′.mir l7) ∷ ‵ (froom (tyInt w64) l6 0) ∷ ‵ (fdies (tyInt w64) l6) ∷ ‵ (froom (sliceTy (tyRef (named 4) mut (tyInt w8))) l5 0) ∷ ‵ (fdies (sliceTy (tyRef (named 4) mut (tyInt w8))) l5) ∷ ‵ (froom (tyRef (named 3) mut (pointee (R-Watch .written))) l4 0) ∷ ‵ (fdies (tyRef (named 3) mut (pointee (R-Watch .written))) l4) ∷ ‵ (froom (sliceTy (tyRef (named 2) mut (pointee (R-MasterWords .written)))) l3 0) ∷ ‵ (fdies (sliceTy (tyRef (named 2) mut (pointee (R-MasterWords .written)))) l3) ∷ ‵ (froom (tyRef (named 1) mut (pointee (R-Servo .written))) l2 0) ∷ ‵ (fdies (tyRef (named 1) mut (pointee (R-Servo .written))) l2) ∷ ‵ (froom (tyRef (named 0) mut (pointee (R-UnitWords .written))) l1 0) ∷ ‵ (fdies (tyRef (named 0) mut (pointee (R-UnitWords .written))) l1) ∷ ‵ (froom tyUnit l0 0) ∷ ‵ (fdies tyUnit l0) ∷ []) (runs C Λ En i-36-6 qq)
+      from-36-6 qq ee zs-8 len-9 p-4 w-3 e-6 is-7 left1 good u-24 g-25 u-28 g-29 left2 u-118 g-119 u-122 g-123 p-125 w-124 e-126 is-127 left5 u-142 g-143 p-145 w-144 e-146 is-147 p-151 w-150 e-152 is-153 held6 zs-169 zs-170 zs-171 p-165 w-164 e-167 is-168 =
+          assigns ! (of-opd ! (unit-lit !)) (from ! (stop !)) (init ! 151 refl (tt, tt)) $
+          returns-within ! Post ee (look ! 151 refl) $
+          forget ! 151 refl $
+          move ! (151 ∷ 152 ∷ 149 ∷ 150 ∷ 147 ∷ 148 ∷ 145 ∷ 146 ∷ 143 ∷ 144 ∷ 141 ∷ 142 ∷ 139 ∷ 140 ∷ 137 ∷ 138 ∷ 135 ∷ 136 ∷ 133 ∷ 134 ∷ 131 ∷ 132 ∷ 129 ∷ 130 ∷ 127 ∷ 128 ∷ 125 ∷ 126 ∷ 123 ∷ 124 ∷ 121 ∷ 122 ∷ 119 ∷ 120 ∷ 117 ∷ 118 ∷ 115 ∷ 116 ∷ 113 ∷ 114 ∷ 111 ∷ 112 ∷ 109 ∷ 110 ∷ 107 ∷ 108 ∷ 105 ∷ 106 ∷ 103 ∷ 104 ∷ 101 ∷ 102 ∷ 99 ∷ 100 ∷ 97 ∷ 98 ∷ 95 ∷ 96 ∷ 93 ∷ 94 ∷ 91 ∷ 92 ∷ 89 ∷ 90 ∷ 87 ∷ 88 ∷ 85 ∷ 86 ∷ 83 ∷ 84 ∷ 81 ∷ 82 ∷ 79 ∷ 80 ∷ 77 ∷ 78 ∷ 75 ∷ 76 ∷ 73 ∷ 74 ∷ 71 ∷ 72 ∷ 69 ∷ 70 ∷ 67 ∷ 68 ∷ 65 ∷ 66 ∷ 63 ∷ 64 ∷ 61 ∷ 62 ∷ 59 ∷ 60 ∷ 57 ∷ 58 ∷ 55 ∷ 56 ∷ 53 ∷ 54 ∷ 51 ∷ 52 ∷ 49 ∷ 50 ∷ 47 ∷ 48 ∷ 45 ∷ 46 ∷ 43 ∷ 44 ∷ 41 ∷ 42 ∷ 39 ∷ 40 ∷ 37 ∷ 38 ∷ 35 ∷ 36 ∷ 33 ∷ 34 ∷ 31 ∷ 32 ∷ 29 ∷ 30 ∷ 27 ∷ 28 ∷ 25 ∷ 26 ∷ 23 ∷ 24 ∷ 21 ∷ 22 ∷ []) $
           freed _ _ (
           keep ! (9 ∷ 10 ∷ 11 ∷ 6 ∷ 7 ∷ 8 ∷ 18 ∷ 19 ∷ 14 ∷ 0 ∷ 1 ∷ 2 ∷ 12 ∷ 13 ∷ 3 ∷ 4 ∷ 5 ∷ 17 ∷ 16 ∷ 15 ∷ []) $
           by ! (exits-7 zs-8 len-9 p-4 w-3 e-6 is-7 left1 good u-24 g-25 u-28 g-29 left2 u-118 g-119 u-122 g-123 p-125 w-124 e-126 is-127 left5 u-142 g-143 p-145 w-144 e-146 is-147 p-151 w-150 e-152 is-153 held6 zs-169 zs-170 zs-171 p-165 w-164 e-167 is-168))
 
-      from-32-1 : (qq : Kit-Post 𝓤 H) (ee : post 𝓤 H qq returnsᴼ ≡ atReturn 𝓤 H En Post returnsᴼ) (zs-8 : List ℕ) (len-9 : length zs-8 ≡ length h5) (p-4 : SReceived.Received) (w-3 : Val) (e-6 : (p-4 ≡ receivedBy (readOf h5)) × (zs-8 ≡ h5)) (is-7 : Is R-Received p-4 (w-3 ∷ [])) (left1 : Holds (not (p-4 .barred))) (good : Holds (not (not (eqb (length h3) 5)))) (u-24 : Val) (g-25 : Is R-SettingsWords (h1 .settings) (u-24 ∷ [])) (u-28 : Val) (g-29 : Is R-StateWords (h1 .state) (u-28 ∷ [])) (left2 : Holds (not (p-4 .announces))) (u-118 : Val) (g-119 : Is R-HalvesWords (h1 .halves) (u-118 ∷ [])) (u-122 : Val) (g-123 : Is R-DelaysWords (h1 .delays) (u-122 ∷ [])) (p-125 : STold.Told) (w-124 : Val) (e-126 : p-125 ≡ heardTold (h1 .settings) (h1 .state) (h1 .halves) (h1 .delays) (p-4 .message) h6 h7) (is-127 : Is R-Told p-125 (w-124 ∷ [])) (left5 : Holds (not (p-125 .barred))) (u-142 : Val) (g-143 : Is R-Servo h2 (u-142 ∷ [])) (p-145 : SServo.Servo) (w-144 : Val) (e-146 : p-145 ≡ servoAfter (h1 .settings) h2 (p-125 .found) (p-125 .steers) (p-125 .wipes)) (is-147 : Is R-Servo p-145 (w-144 ∷ [])) (p-151 : SAnswerWords.AnswerWords) (w-150 : Val) (e-152 : p-151 ≡ outputSaid (p-125 .code) (p-125 .sequence) (p-125 .found) (p-125 .steers) p-145) (is-153 : Is R-AnswerWords p-151 (w-150 ∷ [])) (held6 : Holds (p-125 .wipes)) → Sq W (‵ (fobs γ8 (R-AnswerWords .coded .code p-151)) ∷ ‵ (fbor κ8 (Body (mem R-AnswerWords) b8 o8 γ8)) ∷ ‵ (flft κ8 q8) ∷ ‵ (fobs γ2 (R-Servo .coded .code p-145)) ∷ ‵ (fbor κ2 (Body (mem R-Servo) b2 o2 γ2)) ∷ ‵ (flft κ2 q2) ∷ ‵ (fobs γ1 (R-UnitWords .coded .code (with-UnitWords-3 (with-UnitWords-2 (with-UnitWords-1 h1 (p-125 .state)) (p-125 .halves)) (p-125 .delays)))) ∷ ‵ (fbor κ1 (Body (mem R-UnitWords) b1 o1 γ1)) ∷ ‵ (flft κ1 q1) ∷ ‵ (MutSlice (named 4) κ5 R-u8 .own (x5 zs-8) ((sliceVal (b5, o5) (length h5)) ∷ [])) ∷ ‵ (flft κ5 q5) ∷ ‵ (flft κ4 q4) ∷ ‵ (flft κ3 q3) ∷ ‵ (ftrue) ∷ ‵ (R-Stamp .own h7 (u7 ∷ [])) ∷ ‵ (R-u64 .own h6 (u6 ∷ [])) ∷ ‵ (fobs γ4 (R-Watch .coded .code h4)) ∷ ‵ (fbor κ4 (Body (mem R-Watch) b4 o4 γ4)) ∷ ‵ (fobs γ3 (codedHoleys R-MasterWords .code (heres R-MasterWords h3))) ∷ ‵ (fbor κ3 (Held R-MasterWords (length h3) b3 o3 γ3)) ∷ ‵ (at-slice R-MasterWords (x3 h3) ((sliceVal (b3, o3) (length h3)) ∷ [])) ∷ ‵ (froom (tyRef erased mut (pointee (R-u8x128 .written))) l61 0) ∷ ‵ (fdies (tyRef erased mut (pointee (R-u8x128 .written))) l61) ∷ ‵ (froom (tyRef erased mut (pointee (R-i32x128 .written))) l60 0) ∷ ‵ (fdies (tyRef erased mut (pointee (R-i32x128 .written))) l60) ∷ ‵ (froom (tyRef erased mut (pointee (R-i64x128 .written))) l59 0) ∷ ‵ (fdies (tyRef erased mut (pointee (R-i64x128 .written))) l59) ∷ ‵ (froom MHead′.mir l58 0) ∷ ‵ (fdies MHead′.mir l58) ∷ ‵ (froom MAnswerWords′.mir l57 0) ∷ ‵ (fdies MAnswerWords′.mir l57) ∷ ‵ (froom MAnswerWords′.mir l56 0) ∷ ‵ (fdies MAnswerWords′.mir l56) ∷ ‵ (froom (tyRef erased mut (pointee (R-u8x128 .written))) l55 0) ∷ ‵ (fdies (tyRef erased mut (pointee (R-u8x128 .written))) l55) ∷ ‵ (froom (tyRef erased mut (pointee (R-i32x128 .written))) l54 0) ∷ ‵ (fdies (tyRef erased mut (pointee (R-i32x128 .written))) l54) ∷ ‵ (froom (tyRef erased mut (pointee (R-i64x128 .written))) l53 0) ∷ ‵ (fdies (tyRef erased mut (pointee (R-i64x128 .written))) l53) ∷ ‵ (froom MHead′.mir l52 0) ∷ ‵ (fdies MHead′.mir l52) ∷ ‵ (froom tyPtr l51 0) ∷ ‵ (fdies tyPtr l51) ∷ ‵ (froom tyPtr l50 0) ∷ ‵ (fdies tyPtr l50) ∷ ‵ (froom (tyInt w64) l49 0) ∷ ‵ (fdies (tyInt w64) l49) ∷ ‵ (froom MAnswerWords′.mir l48 0) ∷ ‵ (fdies MAnswerWords′.mir l48) ∷ ‵ (froom tyBool l47 0) ∷ ‵ (fdies tyBool l47) ∷ ‵ (froom tyPtr l46 0) ∷ ‵ (fdies tyPtr l46) ∷ ‵ (froom tyPtr l45 0) ∷ ‵ (fdies tyPtr l45) ∷ ‵ (froom tyPtr l44 0) ∷ ‵ (fdies tyPtr l44) ∷ ‵ (froom tyPtr l43 0) ∷ ‵ (fdies tyPtr l43) ∷ ‵ (froom MMasterWords′.mir l42 0) ∷ ‵ (fdies MMasterWords′.mir l42) ∷ ‵ (froom tyPtr l41 0) ∷ ‵ (fdies tyPtr l41) ∷ ‵ (froom MAnswerWords′.mir l40 0) ∷ ‵ (fdies MAnswerWords′.mir l40) ∷ ‵ (froom (tyInt w64) l39 0) ∷ ‵ (fdies (tyInt w64) l39) ∷ ‵ (froom MAnswerWords′.mir l38 0) ∷ ‵ (fdies MAnswerWords′.mir l38) ∷ ‵ (froom tyBool l37 0) ∷ ‵ (fdies tyBool l37) ∷ ‵ (froom (sliceTy (tyRef erased mut (tyInt w8))) l36 0) ∷ ‵ (fdies (sliceTy (tyRef erased mut (tyInt w8))) l36) ∷ ‵ (froom (tyRef erased mut (tyInt w8)) l35 0) ∷ ‵ (fdies (tyRef erased mut (tyInt w8)) l35) ∷ ‵ (froom tyBool l34 0) ∷ ‵ (fdies tyBool l34) ∷ ‵ (froom MServo′.mir l33 0) ∷ ‵ (fdies MServo′.mir l33) ∷ ‵ (froom MServo′.mir l32 0) ∷ ‵ (fdies MServo′.mir l32) ∷ ‵ (froom tyBool l31 0) ∷ ‵ (fdies tyBool l31) ∷ ‵ (froom MTold′.mir l30 0) ∷ ‵ (fdies MTold′.mir l30) ∷ ‵ (froom MDelaysWords′.mir l29 0) ∷ ‵ (fdies MDelaysWords′.mir l29) ∷ ‵ (froom MHalvesWords′.mir l28 0) ∷ ‵ (fdies MHalvesWords′.mir l28) ∷ ‵ (froom MEmptied′.mir l27 0) ∷ ‵ (fdies MEmptied′.mir l27) ∷ ‵ (froom tyBool l26 0) ∷ ‵ (fdies tyBool l26) ∷ ‵ (froom MHeld′.mir l25 0) ∷ ‵ (fdies MHeld′.mir l25) ∷ ‵ (froom MMasterWords′.mir l24 0) ∷ ‵ (fdies MMasterWords′.mir l24) ∷ ‵ (froom (tyInt w64) l23 0) ∷ ‵ (fdies (tyInt w64) l23) ∷ ‵ (froom tyBool l22 0) ∷ ‵ (fdies tyBool l22) ∷ ‵ (froom MSeat′.mir l21 0) ∷ ‵ (fdies MSeat′.mir l21) ∷ ‵ (froom MLooked′.mir l20 0) ∷ ‵ (fdies MLooked′.mir l20) ∷ ‵ (froom MLooked′.mir l19 0) ∷ ‵ (fdies MLooked′.mir l19) ∷ ‵ (froom MLooked′.mir l18 0) ∷ ‵ (fdies MLooked′.mir l18) ∷ ‵ (froom MLooked′.mir l17 0) ∷ ‵ (fdies MLooked′.mir l17) ∷ ‵ (froom MLooked′.mir l16 0) ∷ ‵ (fdies MLooked′.mir l16) ∷ ‵ (froom (tyInt w32) l15 0) ∷ ‵ (fdies (tyInt w32) l15) ∷ ‵ (froom tyBool l14 0) ∷ ‵ (fdies tyBool l14) ∷ ‵ (froom MStateWords′.mir l13 0) ∷ ‵ (fdies MStateWords′.mir l13) ∷ ‵ (froom MSettingsWords′.mir l12 0) ∷ ‵ (fdies MSettingsWords′.mir l12) ∷ ‵ (froom MMessage′.mir l11 0) ∷ ‵ (fdies MMessage′.mir l11) ∷ ‵ (froom tyBool l10 0) ∷ ‵ (fdies tyBool l10) ∷ ‵ (froom MReceived′.mir l9 0) ∷ ‵ (fdies MReceived′.mir l9) ∷ ‵ (froom (tyRef (named 5) mut (pointee (R-AnswerWords .written))) l8 0) ∷ ‵ (fdies (tyRef (named 5) mut (pointee (R-AnswerWords .written))) l8) ∷ ‵ (froom MStamp′.mir l7 0) ∷ ‵ (fdies MStamp′.mir l7) ∷ ‵ (froom (tyInt w64) l6 0) ∷ ‵ (fdies (tyInt w64) l6) ∷ ‵ (froom (sliceTy (tyRef (named 4) mut (tyInt w8))) l5 0) ∷ ‵ (fdies (sliceTy (tyRef (named 4) mut (tyInt w8))) l5) ∷ ‵ (fat fullShare (tyRef (named 3) mut (pointee (R-Watch .written))) l4 0 (vptr b4 o4)) ∷ ‵ (fdies (tyRef (named 3) mut (pointee (R-Watch .written))) l4) ∷ ‵ (froom (sliceTy (tyRef (named 2) mut (pointee (R-MasterWords .written)))) l3 0) ∷ ‵ (fdies (sliceTy (tyRef (named 2) mut (pointee (R-MasterWords .written)))) l3) ∷ ‵ (froom (tyRef (named 1) mut (pointee (R-Servo .written))) l2 0) ∷ ‵ (fdies (tyRef (named 1) mut (pointee (R-Servo .written))) l2) ∷ ‵ (froom (tyRef (named 0) mut (pointee (R-UnitWords .written))) l1 0) ∷ ‵ (fdies (tyRef (named 0) mut (pointee (R-UnitWords .written))) l1) ∷ ‵ (froom tyUnit l0 0) ∷ ‵ (fdies tyUnit l0) ∷ []) (runs C Λ En i-32-1 qq)
-      from-32-1 qq ee zs-8 len-9 p-4 w-3 e-6 is-7 left1 good u-24 g-25 u-28 g-29 left2 u-118 g-119 u-122 g-123 p-125 w-124 e-126 is-127 left5 u-142 g-143 p-145 w-144 e-146 is-147 p-151 w-150 e-152 is-153 held6 =
-          assigns ! (addr ! (from ! (hop ! (look ! 135 refl) (fld ! {τ = (tyArray (tyInt w64) 128)} {d = 16} refl (stop !))))) (from ! (stop !)) (init ! 25 refl (tt, tt)) $
-          assigns ! (addr ! (from ! (hop ! (look ! 135 refl) (fld ! {τ = (tyArray (tyInt w32) 128)} {d = 1040} refl (stop !))))) (from ! (stop !)) (init ! 23 refl (tt, tt)) $
-          assigns ! (addr ! (from ! (hop ! (look ! 135 refl) (fld ! {τ = (tyArray (tyInt w8) 128)} {d = 1552} refl (stop !))))) (from ! (stop !)) (init ! 21 refl (tt, tt)) $
+      from-36-1 : (qq : Kit-Post 𝓤 H) (ee : post 𝓤 H qq returnsᴼ ≡ atReturn 𝓤 H En Post returnsᴼ) (zs-8 : List ℕ) (len-9 : length zs-8 ≡ length h5) (p-4 : SReceived.Received) (w-3 : Val) (e-6 : (p-4 ≡ receivedBy (readOf h5)) × (zs-8 ≡ h5)) (is-7 : Is R-Received p-4 (w-3 ∷ [])) (left1 : Holds (not (p-4 .barred))) (good : Holds (not (not (eqb (length h3) 5)))) (u-24 : Val) (g-25 : Is R-SettingsWords (h1 .settings) (u-24 ∷ [])) (u-28 : Val) (g-29 : Is R-StateWords (h1 .state) (u-28 ∷ [])) (left2 : Holds (not (p-4 .announces))) (u-118 : Val) (g-119 : Is R-HalvesWords (h1 .halves) (u-118 ∷ [])) (u-122 : Val) (g-123 : Is R-DelaysWords (h1 .delays) (u-122 ∷ [])) (p-125 : STold.Told) (w-124 : Val) (e-126 : p-125 ≡ heardTold (h1 .settings) (h1 .state) (h1 .halves) (h1 .delays) (p-4 .message) h6 h7) (is-127 : Is R-Told p-125 (w-124 ∷ [])) (left5 : Holds (not (p-125 .barred))) (u-142 : Val) (g-143 : Is R-Servo h2 (u-142 ∷ [])) (p-145 : SServo.Servo) (w-144 : Val) (e-146 : p-145 ≡ servoAfter (h1 .settings) h2 (p-125 .found) (p-125 .steers) (p-125 .wipes)) (is-147 : Is R-Servo p-145 (w-144 ∷ [])) (p-151 : SAnswerWords.AnswerWords) (w-150 : Val) (e-152 : p-151 ≡ outputSaid (p-125 .code) (p-125 .sequence) (p-125 .found) (p-125 .steers) p-145) (is-153 : Is R-AnswerWords p-151 (w-150 ∷ [])) (held6 : Holds (p-125 .wipes)) → Sq W (‵ (fobs γ8 (R-AnswerWords .coded .code p-151)) ∷ ‵ (fbor κ8 (Body (mem R-AnswerWords) b8 o8 γ8)) ∷ ‵ (flft κ8 q8) ∷ ‵ (fobs γ2 (R-Servo .coded .code p-145)) ∷ ‵ (fbor κ2 (Body (mem R-Servo) b2 o2 γ2)) ∷ ‵ (flft κ2 q2) ∷ ‵ (fobs γ1 (R-UnitWords .coded .code (with-UnitWords-3 (with-UnitWords-2 (with-UnitWords-1 h1 (p-125 .state)) (p-125 .halves)) (p-125 .delays)))) ∷ ‵ (fbor κ1 (Body (mem R-UnitWords) b1 o1 γ1)) ∷ ‵ (flft κ1 q1) ∷ ‵ (MutSlice (named 4) κ5 R-u8 .own (x5 zs-8) ((sliceVal (b5, o5) (length h5)) ∷ [])) ∷ ‵ (flft κ5 q5) ∷ ‵ (flft κ4 q4) ∷ ‵ (flft κ3 q3) ∷ ‵ (ftrue) ∷ ‵ (R-Stamp .own h7 (u7 ∷ [])) ∷ ‵ (R-u64 .own h6 (u6 ∷ [])) ∷ ‵ (fobs γ4 (R-Watch .coded .code h4)) ∷ ‵ (fbor κ4 (Body (mem R-Watch) b4 o4 γ4)) ∷ ‵ (fobs γ3 (codedHoleys R-MasterWords .code (heres R-MasterWords h3))) ∷ ‵ (fbor κ3 (Held R-MasterWords (length h3) b3 o3 γ3)) ∷ ‵ (at-slice R-MasterWords (x3 h3) ((sliceVal (b3, o3) (length h3)) ∷ [])) ∷ ‵ (froom (tyRef erased mut (pointee (R-u8x128 .written))) l65 0) ∷ ‵ (fdies (tyRef erased mut (pointee (R-u8x128 .written))) l65) ∷ ‵ (froom (tyRef erased mut (pointee (R-i32x128 .written))) l64 0) ∷ ‵ (fdies (tyRef erased mut (pointee (R-i32x128 .written))) l64) ∷ ‵ (froom (tyRef erased mut (pointee (R-i64x128 .written))) l63 0) ∷ ‵ (fdies (tyRef erased mut (pointee (R-i64x128 .written))) l63) ∷ ‵ (froom MHead′.mir l62 0) ∷ ‵ (fdies MHead′.mir l62) ∷ ‵ (froom MAnswerWords′.mir l61 0) ∷ ‵ (fdies MAnswerWords′.mir l61) ∷ ‵ (froom MAnswerWords′.mir l60 0) ∷ ‵ (fdies MAnswerWords′.mir l60) ∷ ‵ (froom (tyRef erased mut (pointee (R-u8x128 .written))) l59 0) ∷ ‵ (fdies (tyRef erased mut (pointee (R-u8x128 .written))) l59) ∷ ‵ (froom (tyRef erased mut (pointee (R-i32x128 .written))) l58 0) ∷ ‵ (fdies (tyRef erased mut (pointee (R-i32x128 .written))) l58) ∷ ‵ (froom (tyRef erased mut (pointee (R-i64x128 .written))) l57 0) ∷ ‵ (fdies (tyRef erased mut (pointee (R-i64x128 .written))) l57) ∷ ‵ (froom MHead′.mir l56 0) ∷ ‵ (fdies MHead′.mir l56) ∷ ‵ (froom tyPtr l55 0) ∷ ‵ (fdies tyPtr l55) ∷ ‵ (froom tyPtr l54 0) ∷ ‵ (fdies tyPtr l54) ∷ ‵ (froom (tyInt w64) l53 0) ∷ ‵ (fdies (tyInt w64) l53) ∷ ‵ (froom MAnswerWords′.mir l52 0) ∷ ‵ (fdies MAnswerWords′.mir l52) ∷ ‵ (froom tyBool l51 0) ∷ ‵ (fdies tyBool l51) ∷ ‵ (froom tyPtr l50 0) ∷ ‵ (fdies tyPtr l50) ∷ ‵ (froom tyPtr l49 0) ∷ ‵ (fdies tyPtr l49) ∷ ‵ (froom tyPtr l48 0) ∷ ‵ (fdies tyPtr l48) ∷ ‵ (froom tyPtr l47 0) ∷ ‵ (fdies tyPtr l47) ∷ ‵ (froom MMasterWords′.mir l46 0) ∷ ‵ (fdies MMasterWords′.mir l46) ∷ ‵ (froom tyPtr l45 0) ∷ ‵ (fdies tyPtr l45) ∷ ‵ (froom MAnswerWords′.mir l44 0) ∷ ‵ (fdies MAnswerWords′.mir l44) ∷ ‵ (froom (tyInt w64) l43 0) ∷ ‵ (fdies (tyInt w64) l43) ∷ ‵ (froom MAnswerWords′.mir l42 0) ∷ ‵ (fdies MAnswerWords′.mir l42) ∷ ‵ (froom tyBool l41 0) ∷ ‵ (fdies tyBool l41) ∷ ‵ (froom (sliceTy (tyRef erased mut (tyInt w8))) l40 0) ∷ ‵ (fdies (sliceTy (tyRef erased mut (tyInt w8))) l40) ∷ ‵ (froom (tyRef erased mut (tyInt w8)) l39 0) ∷ ‵ (fdies (tyRef erased mut (tyInt w8)) l39) ∷ ‵ (froom (tyInt w16) l38 0) ∷ ‵ (fdies (tyInt w16) l38) ∷ ‵ (froom (tyInt w8) l37 0) ∷ ‵ (fdies (tyInt w8) l37) ∷ ‵ (froom MServo′.mir l36 0) ∷ ‵ (fdies MServo′.mir l36) ∷ ‵ (froom tyBool l35 0) ∷ ‵ (fdies tyBool l35) ∷ ‵ (froom tyBool l34 0) ∷ ‵ (fdies tyBool l34) ∷ ‵ (froom MAccepted′.mir l33 0) ∷ ‵ (fdies MAccepted′.mir l33) ∷ ‵ (froom MServo′.mir l32 0) ∷ ‵ (fdies MServo′.mir l32) ∷ ‵ (froom tyBool l31 0) ∷ ‵ (fdies tyBool l31) ∷ ‵ (froom MTold′.mir l30 0) ∷ ‵ (fdies MTold′.mir l30) ∷ ‵ (froom MDelaysWords′.mir l29 0) ∷ ‵ (fdies MDelaysWords′.mir l29) ∷ ‵ (froom MHalvesWords′.mir l28 0) ∷ ‵ (fdies MHalvesWords′.mir l28) ∷ ‵ (froom MEmptied′.mir l27 0) ∷ ‵ (fdies MEmptied′.mir l27) ∷ ‵ (froom tyBool l26 0) ∷ ‵ (fdies tyBool l26) ∷ ‵ (froom MHeld′.mir l25 0) ∷ ‵ (fdies MHeld′.mir l25) ∷ ‵ (froom MMasterWords′.mir l24 0) ∷ ‵ (fdies MMasterWords′.mir l24) ∷ ‵ (froom (tyInt w64) l23 0) ∷ ‵ (fdies (tyInt w64) l23) ∷ ‵ (froom tyBool l22 0) ∷ ‵ (fdies tyBool l22) ∷ ‵ (froom MSeat′.mir l21 0) ∷ ‵ (fdies MSeat′.mir l21) ∷ ‵ (froom MLooked′.mir l20 0) ∷ ‵ (fdies MLooked′.mir l20) ∷ ‵ (froom MLooked′.mir l19 0) ∷ ‵ (fdies MLooked′.mir l19) ∷ ‵ (froom MLooked′.mir l18 0) ∷ ‵ (fdies MLooked′.mir l18) ∷ ‵ (froom MLooked′.mir l17 0) ∷ ‵ (fdies MLooked′.mir l17) ∷ ‵ (froom MLooked′.mir l16 0) ∷ ‵ (fdies MLooked′.mir l16) ∷ ‵ (froom (tyInt w32) l15 0) ∷ ‵ (fdies (tyInt w32) l15) ∷ ‵ (froom tyBool l14 0) ∷ ‵ (fdies tyBool l14) ∷ ‵ (froom MStateWords′.mir l13 0) ∷ ‵ (fdies MStateWords′.mir l13) ∷ ‵ (froom MSettingsWords′.mir l12 0) ∷ ‵ (fdies MSettingsWords′.mir l12) ∷ ‵ (froom MMessage′.mir l11 0) ∷ ‵ (fdies MMessage′.mir l11) ∷ ‵ (froom tyBool l10 0) ∷ ‵ (fdies tyBool l10) ∷ ‵ (froom MReceived′.mir l9 0) ∷ ‵ (fdies MReceived′.mir l9) ∷ ‵ (froom (tyRef (named 5) mut (pointee (R-AnswerWords .written))) l8 0) ∷ ‵ (fdies (tyRef (named 5) mut (pointee (R-AnswerWords .written))) l8) ∷ ‵ (froom MStamp′.mir l7 0) ∷ ‵ (fdies MStamp′.mir l7) ∷ ‵ (froom (tyInt w64) l6 0) ∷ ‵ (fdies (tyInt w64) l6) ∷ ‵ (froom (sliceTy (tyRef (named 4) mut (tyInt w8))) l5 0) ∷ ‵ (fdies (sliceTy (tyRef (named 4) mut (tyInt w8))) l5) ∷ ‵ (fat fullShare (tyRef (named 3) mut (pointee (R-Watch .written))) l4 0 (vptr b4 o4)) ∷ ‵ (fdies (tyRef (named 3) mut (pointee (R-Watch .written))) l4) ∷ ‵ (froom (sliceTy (tyRef (named 2) mut (pointee (R-MasterWords .written)))) l3 0) ∷ ‵ (fdies (sliceTy (tyRef (named 2) mut (pointee (R-MasterWords .written)))) l3) ∷ ‵ (froom (tyRef (named 1) mut (pointee (R-Servo .written))) l2 0) ∷ ‵ (fdies (tyRef (named 1) mut (pointee (R-Servo .written))) l2) ∷ ‵ (froom (tyRef (named 0) mut (pointee (R-UnitWords .written))) l1 0) ∷ ‵ (fdies (tyRef (named 0) mut (pointee (R-UnitWords .written))) l1) ∷ ‵ (froom tyUnit l0 0) ∷ ‵ (fdies tyUnit l0) ∷ []) (runs C Λ En i-36-1 qq)
+      from-36-1 qq ee zs-8 len-9 p-4 w-3 e-6 is-7 left1 good u-24 g-25 u-28 g-29 left2 u-118 g-119 u-122 g-123 p-125 w-124 e-126 is-127 left5 u-142 g-143 p-145 w-144 e-146 is-147 p-151 w-150 e-152 is-153 held6 =
+          assigns ! (addr ! (from ! (hop ! (look ! 143 refl) (fld ! {τ = (tyArray (tyInt w64) 128)} {d = 16} refl (stop !))))) (from ! (stop !)) (init ! 25 refl (tt, tt)) $
+          assigns ! (addr ! (from ! (hop ! (look ! 143 refl) (fld ! {τ = (tyArray (tyInt w32) 128)} {d = 1040} refl (stop !))))) (from ! (stop !)) (init ! 23 refl (tt, tt)) $
+          assigns ! (addr ! (from ! (hop ! (look ! 143 refl) (fld ! {τ = (tyArray (tyInt w8) 128)} {d = 1552} refl (stop !))))) (from ! (stop !)) (init ! 21 refl (tt, tt)) $
           move ! (16 ∷ 17 ∷ 11 ∷ []) $
           opens ! tt R-Watch {h = h4} b4 o4 (λ vs-156.
           move ! (1 ∷ []) $
@@ -2695,47 +2695,47 @@ module _ {M : Type 1} (𝓤 : URA M) (H : Heap 𝓤) (A : Atoms 𝓤) (W : Given
           move ! (1 ∷ []) $
           use1 W (‵ (fat fullShare MWatch′.mir b4 o4 (only vs-178))) (W .laws .raw-at fullShare MWatch′.mir b4 o4 (only vs-178)) $
           rewrite ! 0 (λ (u : Val). ‵ (fat fullShare MWatch′.mir b4 o4 u)) ((parts-Watch (all-Watch (h4 .head) (ws-166 .0) (ws-166 .1 .0) (ws-166 .1 .1 .0)) (only vs-178) (one-Watch (all-Watch (h4 .head) (ws-166 .0) (ws-166 .1 .0) (ws-166 .1 .1 .0)) vs-178 g-179)) .whole-is) refl $
-          assigns ! (of-opd ! (load ! (from ! (stop !)) (look ! 29 refl))) (from ! (hop ! (look ! 137 refl) (fld ! {τ = MHead′.mir} {d = off-Watch-0} field-Watch-0 (stop !)))) (store-in ! 0 (sub ! {ν = name-of MWatch′.mir} {τs = tys-of MWatch′.mir} 0 {τ = MHead′.mir} {d = off-Watch-0} field-Watch-0 (whole !)) (lawful-Head 𝓤 H A W .typed p-165 _ is-168 .0)) $
+          assigns ! (of-opd ! (load ! (from ! (stop !)) (look ! 29 refl))) (from ! (hop ! (look ! 145 refl) (fld ! {τ = MHead′.mir} {d = off-Watch-0} field-Watch-0 (stop !)))) (store-in ! 0 (sub ! {ν = name-of MWatch′.mir} {τs = tys-of MWatch′.mir} 0 {τ = MHead′.mir} {d = off-Watch-0} field-Watch-0 (whole !)) (lawful-Head 𝓤 H A W .typed p-165 _ is-168 .0)) $
           use1 W (‵ (cellAt fullShare (R-Watch .mir) ((vstruct (ofList (w-164 ∷ ((parts-Watch (all-Watch (h4 .head) (ws-166 .0) (ws-166 .1 .0) (ws-166 .1 .1 .0)) (only vs-178) (one-Watch (all-Watch (h4 .head) (ws-166 .0) (ws-166 .1 .0) (ws-166 .1 .1 .0)) vs-178 g-179)) .pu1) ∷ ((parts-Watch (all-Watch (h4 .head) (ws-166 .0) (ws-166 .1 .0) (ws-166 .1 .1 .0)) (only vs-178) (one-Watch (all-Watch (h4 .head) (ws-166 .0) (ws-166 .1 .0) (ws-166 .1 .1 .0)) vs-178 g-179)) .pu2) ∷ ((parts-Watch (all-Watch (h4 .head) (ws-166 .0) (ws-166 .1 .0) (ws-166 .1 .1 .0)) (only vs-178) (one-Watch (all-Watch (h4 .head) (ws-166 .0) (ws-166 .1 .0) (ws-166 .1 .1 .0)) vs-178 g-179)) .pu3) ∷ []))) ∷ []) b4 o4)) (W .laws .at-raw fullShare MWatch′.mir b4 o4 (vstruct (ofList (w-164 ∷ ((parts-Watch (all-Watch (h4 .head) (ws-166 .0) (ws-166 .1 .0) (ws-166 .1 .1 .0)) (only vs-178) (one-Watch (all-Watch (h4 .head) (ws-166 .0) (ws-166 .1 .0) (ws-166 .1 .1 .0)) vs-178 g-179)) .pu1) ∷ ((parts-Watch (all-Watch (h4 .head) (ws-166 .0) (ws-166 .1 .0) (ws-166 .1 .1 .0)) (only vs-178) (one-Watch (all-Watch (h4 .head) (ws-166 .0) (ws-166 .1 .0) (ws-166 .1 .1 .0)) vs-178 g-179)) .pu2) ∷ ((parts-Watch (all-Watch (h4 .head) (ws-166 .0) (ws-166 .1 .0) (ws-166 .1 .1 .0)) (only vs-178) (one-Watch (all-Watch (h4 .head) (ws-166 .0) (ws-166 .1 .0) (ws-166 .1 .1 .0)) vs-178 g-179)) .pu3) ∷ [])))) $
           move ! (1 ∷ []) $
           drop ! $
           owned ! R-Watch (Is R-Watch) (makes-Watch 𝓤 H A W) (with-Watch-0 (all-Watch (h4 .head) (ws-166 .0) (ws-166 .1 .0) (ws-166 .1 .1 .0)) p-165) _ (shape-Watch (with-Watch-0 (all-Watch (h4 .head) (ws-166 .0) (ws-166 .1 .0) (ws-166 .1 .1 .0)) p-165) w-164 ((parts-Watch (all-Watch (h4 .head) (ws-166 .0) (ws-166 .1 .0) (ws-166 .1 .1 .0)) (only vs-178) (one-Watch (all-Watch (h4 .head) (ws-166 .0) (ws-166 .1 .0) (ws-166 .1 .1 .0)) vs-178 g-179)) .pu1) ((parts-Watch (all-Watch (h4 .head) (ws-166 .0) (ws-166 .1 .0) (ws-166 .1 .1 .0)) (only vs-178) (one-Watch (all-Watch (h4 .head) (ws-166 .0) (ws-166 .1 .0) (ws-166 .1 .1 .0)) vs-178 g-179)) .pu2) ((parts-Watch (all-Watch (h4 .head) (ws-166 .0) (ws-166 .1 .0) (ws-166 .1 .1 .0)) (only vs-178) (one-Watch (all-Watch (h4 .head) (ws-166 .0) (ws-166 .1 .0) (ws-166 .1 .1 .0)) vs-178 g-179)) .pu3) is-168 ((parts-Watch (all-Watch (h4 .head) (ws-166 .0) (ws-166 .1 .0) (ws-166 .1 .1 .0)) (only vs-178) (one-Watch (all-Watch (h4 .head) (ws-166 .0) (ws-166 .1 .0) (ws-166 .1 .1 .0)) vs-178 g-179)) .pg1) ((parts-Watch (all-Watch (h4 .head) (ws-166 .0) (ws-166 .1 .0) (ws-166 .1 .1 .0)) (only vs-178) (one-Watch (all-Watch (h4 .head) (ws-166 .0) (ws-166 .1 .0) (ws-166 .1 .1 .0)) vs-178 g-179)) .pg2) ((parts-Watch (all-Watch (h4 .head) (ws-166 .0) (ws-166 .1 .0) (ws-166 .1 .1 .0)) (only vs-178) (one-Watch (all-Watch (h4 .head) (ws-166 .0) (ws-166 .1 .0) (ws-166 .1 .1 .0)) vs-178 g-179)) .pg3)) $
           move ! (1 ∷ 0 ∷ 2 ∷ 3 ∷ 4 ∷ []) $
           closes ! tt R-Watch (with-Watch-0 (all-Watch (h4 .head) (ws-166 .0) (ws-166 .1 .0) (ws-166 .1 .1 .0)) p-165) ((vstruct (ofList (w-164 ∷ ((parts-Watch (all-Watch (h4 .head) (ws-166 .0) (ws-166 .1 .0) (ws-166 .1 .1 .0)) (only vs-178) (one-Watch (all-Watch (h4 .head) (ws-166 .0) (ws-166 .1 .0) (ws-166 .1 .1 .0)) vs-178 g-179)) .pu1) ∷ ((parts-Watch (all-Watch (h4 .head) (ws-166 .0) (ws-166 .1 .0) (ws-166 .1 .1 .0)) (only vs-178) (one-Watch (all-Watch (h4 .head) (ws-166 .0) (ws-166 .1 .0) (ws-166 .1 .1 .0)) vs-178 g-179)) .pu2) ∷ ((parts-Watch (all-Watch (h4 .head) (ws-166 .0) (ws-166 .1 .0) (ws-166 .1 .1 .0)) (only vs-178) (one-Watch (all-Watch (h4 .head) (ws-166 .0) (ws-166 .1 .0) (ws-166 .1 .1 .0)) vs-178 g-179)) .pu3) ∷ []))) ∷ []) b4 o4 $
-          forget ! 135 refl $ forget ! 25 refl $ forget ! 23 refl $ forget ! 21 refl $ forget ! 27 refl $
-          from-32-6 qq ee zs-8 len-9 p-4 w-3 e-6 is-7 left1 good u-24 g-25 u-28 g-29 left2 u-118 g-119 u-122 g-123 p-125 w-124 e-126 is-127 left5 u-142 g-143 p-145 w-144 e-146 is-147 p-151 w-150 e-152 is-153 held6 (ws-166 .0) (ws-166 .1 .0) (ws-166 .1 .1 .0) p-165 w-164 e-167 is-168)))))))))))))))))))))
+          forget ! 143 refl $ forget ! 25 refl $ forget ! 23 refl $ forget ! 21 refl $ forget ! 27 refl $
+          from-36-6 qq ee zs-8 len-9 p-4 w-3 e-6 is-7 left1 good u-24 g-25 u-28 g-29 left2 u-118 g-119 u-122 g-123 p-125 w-124 e-126 is-127 left5 u-142 g-143 p-145 w-144 e-146 is-147 p-151 w-150 e-152 is-153 held6 (ws-166 .0) (ws-166 .1 .0) (ws-166 .1 .1 .0) p-165 w-164 e-167 is-168)))))))))))))))))))))
 
-      from-33 : (zs-8 : List ℕ) (len-9 : length zs-8 ≡ length h5) (p-4 : SReceived.Received) (w-3 : Val) (e-6 : (p-4 ≡ receivedBy (readOf h5)) × (zs-8 ≡ h5)) (is-7 : Is R-Received p-4 (w-3 ∷ [])) (left1 : Holds (not (p-4 .barred))) (good : Holds (not (not (eqb (length h3) 5)))) (u-24 : Val) (g-25 : Is R-SettingsWords (h1 .settings) (u-24 ∷ [])) (u-28 : Val) (g-29 : Is R-StateWords (h1 .state) (u-28 ∷ [])) (left2 : Holds (not (p-4 .announces))) (u-118 : Val) (g-119 : Is R-HalvesWords (h1 .halves) (u-118 ∷ [])) (u-122 : Val) (g-123 : Is R-DelaysWords (h1 .delays) (u-122 ∷ [])) (p-125 : STold.Told) (w-124 : Val) (e-126 : p-125 ≡ heardTold (h1 .settings) (h1 .state) (h1 .halves) (h1 .delays) (p-4 .message) h6 h7) (is-127 : Is R-Told p-125 (w-124 ∷ [])) (left5 : Holds (not (p-125 .barred))) (u-142 : Val) (g-143 : Is R-Servo h2 (u-142 ∷ [])) (p-145 : SServo.Servo) (w-144 : Val) (e-146 : p-145 ≡ servoAfter (h1 .settings) h2 (p-125 .found) (p-125 .steers) (p-125 .wipes)) (is-147 : Is R-Servo p-145 (w-144 ∷ [])) (p-151 : SAnswerWords.AnswerWords) (w-150 : Val) (e-152 : p-151 ≡ outputSaid (p-125 .code) (p-125 .sequence) (p-125 .found) (p-125 .steers) p-145) (is-153 : Is R-AnswerWords p-151 (w-150 ∷ [])) (left6 : Holds (not (p-125 .wipes))) → Sq W (‵ (fobs γ8 (R-AnswerWords .coded .code p-151)) ∷ ‵ (fbor κ8 (Body (mem R-AnswerWords) b8 o8 γ8)) ∷ ‵ (flft κ8 q8) ∷ ‵ (fobs γ2 (R-Servo .coded .code p-145)) ∷ ‵ (fbor κ2 (Body (mem R-Servo) b2 o2 γ2)) ∷ ‵ (flft κ2 q2) ∷ ‵ (fobs γ1 (R-UnitWords .coded .code (with-UnitWords-3 (with-UnitWords-2 (with-UnitWords-1 h1 (p-125 .state)) (p-125 .halves)) (p-125 .delays)))) ∷ ‵ (fbor κ1 (Body (mem R-UnitWords) b1 o1 γ1)) ∷ ‵ (flft κ1 q1) ∷ ‵ (MutSlice (named 4) κ5 R-u8 .own (x5 zs-8) ((sliceVal (b5, o5) (length h5)) ∷ [])) ∷ ‵ (flft κ5 q5) ∷ ‵ (flft κ4 q4) ∷ ‵ (flft κ3 q3) ∷ ‵ (ftrue) ∷ ‵ (R-Stamp .own h7 (u7 ∷ [])) ∷ ‵ (R-u64 .own h6 (u6 ∷ [])) ∷ ‵ (fobs γ4 (R-Watch .coded .code h4)) ∷ ‵ (fbor κ4 (Body (mem R-Watch) b4 o4 γ4)) ∷ ‵ (fobs γ3 (codedHoleys R-MasterWords .code (heres R-MasterWords h3))) ∷ ‵ (fbor κ3 (Held R-MasterWords (length h3) b3 o3 γ3)) ∷ ‵ (at-slice R-MasterWords (x3 h3) ((sliceVal (b3, o3) (length h3)) ∷ [])) ∷ ‵ (froom (tyRef erased mut (pointee (R-u8x128 .written))) l61 0) ∷ ‵ (fdies (tyRef erased mut (pointee (R-u8x128 .written))) l61) ∷ ‵ (froom (tyRef erased mut (pointee (R-i32x128 .written))) l60 0) ∷ ‵ (fdies (tyRef erased mut (pointee (R-i32x128 .written))) l60) ∷ ‵ (froom (tyRef erased mut (pointee (R-i64x128 .written))) l59 0) ∷ ‵ (fdies (tyRef erased mut (pointee (R-i64x128 .written))) l59) ∷ ‵ (froom MHead′.mir l58 0) ∷ ‵ (fdies MHead′.mir l58) ∷ ‵ (froom MAnswerWords′.mir l57 0) ∷ ‵ (fdies MAnswerWords′.mir l57) ∷ ‵ (froom MAnswerWords′.mir l56 0) ∷ ‵ (fdies MAnswerWords′.mir l56) ∷ ‵ (froom (tyRef erased mut (pointee (R-u8x128 .written))) l55 0) ∷ ‵ (fdies (tyRef erased mut (pointee (R-u8x128 .written))) l55) ∷ ‵ (froom (tyRef erased mut (pointee (R-i32x128 .written))) l54 0) ∷ ‵ (fdies (tyRef erased mut (pointee (R-i32x128 .written))) l54) ∷ ‵ (froom (tyRef erased mut (pointee (R-i64x128 .written))) l53 0) ∷ ‵ (fdies (tyRef erased mut (pointee (R-i64x128 .written))) l53) ∷ ‵ (froom MHead′.mir l52 0) ∷ ‵ (fdies MHead′.mir l52) ∷ ‵ (froom tyPtr l51 0) ∷ ‵ (fdies tyPtr l51) ∷ ‵ (froom tyPtr l50 0) ∷ ‵ (fdies tyPtr l50) ∷ ‵ (froom (tyInt w64) l49 0) ∷ ‵ (fdies (tyInt w64) l49) ∷ ‵ (froom MAnswerWords′.mir l48 0) ∷ ‵ (fdies MAnswerWords′.mir l48) ∷ ‵ (froom tyBool l47 0) ∷ ‵ (fdies tyBool l47) ∷ ‵ (froom tyPtr l46 0) ∷ ‵ (fdies tyPtr l46) ∷ ‵ (froom tyPtr l45 0) ∷ ‵ (fdies tyPtr l45) ∷ ‵ (froom tyPtr l44 0) ∷ ‵ (fdies tyPtr l44) ∷ ‵ (froom tyPtr l43 0) ∷ ‵ (fdies tyPtr l43) ∷ ‵ (froom MMasterWords′.mir l42 0) ∷ ‵ (fdies MMasterWords′.mir l42) ∷ ‵ (froom tyPtr l41 0) ∷ ‵ (fdies tyPtr l41) ∷ ‵ (froom MAnswerWords′.mir l40 0) ∷ ‵ (fdies MAnswerWords′.mir l40) ∷ ‵ (froom (tyInt w64) l39 0) ∷ ‵ (fdies (tyInt w64) l39) ∷ ‵ (froom MAnswerWords′.mir l38 0) ∷ ‵ (fdies MAnswerWords′.mir l38) ∷ ‵ (froom tyBool l37 0) ∷ ‵ (fdies tyBool l37) ∷ ‵ (froom (sliceTy (tyRef erased mut (tyInt w8))) l36 0) ∷ ‵ (fdies (sliceTy (tyRef erased mut (tyInt w8))) l36) ∷ ‵ (froom (tyRef erased mut (tyInt w8)) l35 0) ∷ ‵ (fdies (tyRef erased mut (tyInt w8)) l35) ∷ ‵ (froom tyBool l34 0) ∷ ‵ (fdies tyBool l34) ∷ ‵ (froom MServo′.mir l33 0) ∷ ‵ (fdies MServo′.mir l33) ∷ ‵ (froom MServo′.mir l32 0) ∷ ‵ (fdies MServo′.mir l32) ∷ ‵ (froom tyBool l31 0) ∷ ‵ (fdies tyBool l31) ∷ ‵ (froom MTold′.mir l30 0) ∷ ‵ (fdies MTold′.mir l30) ∷ ‵ (froom MDelaysWords′.mir l29 0) ∷ ‵ (fdies MDelaysWords′.mir l29) ∷ ‵ (froom MHalvesWords′.mir l28 0) ∷ ‵ (fdies MHalvesWords′.mir l28) ∷ ‵ (froom MEmptied′.mir l27 0) ∷ ‵ (fdies MEmptied′.mir l27) ∷ ‵ (froom tyBool l26 0) ∷ ‵ (fdies tyBool l26) ∷ ‵ (froom MHeld′.mir l25 0) ∷ ‵ (fdies MHeld′.mir l25) ∷ ‵ (froom MMasterWords′.mir l24 0) ∷ ‵ (fdies MMasterWords′.mir l24) ∷ ‵ (froom (tyInt w64) l23 0) ∷ ‵ (fdies (tyInt w64) l23) ∷ ‵ (froom tyBool l22 0) ∷ ‵ (fdies tyBool l22) ∷ ‵ (froom MSeat′.mir l21 0) ∷ ‵ (fdies MSeat′.mir l21) ∷ ‵ (froom MLooked′.mir l20 0) ∷ ‵ (fdies MLooked′.mir l20) ∷ ‵ (froom MLooked′.mir l19 0) ∷ ‵ (fdies MLooked′.mir l19) ∷ ‵ (froom MLooked′.mir l18 0) ∷ ‵ (fdies MLooked′.mir l18) ∷ ‵ (froom MLooked′.mir l17 0) ∷ ‵ (fdies MLooked′.mir l17) ∷ ‵ (froom MLooked′.mir l16 0) ∷ ‵ (fdies MLooked′.mir l16) ∷ ‵ (froom (tyInt w32) l15 0) ∷ ‵ (fdies (tyInt w32) l15) ∷ ‵ (froom tyBool l14 0) ∷ ‵ (fdies tyBool l14) ∷ ‵ (froom MStateWords′.mir l13 0) ∷ ‵ (fdies MStateWords′.mir l13) ∷ ‵ (froom MSettingsWords′.mir l12 0) ∷ ‵ (fdies MSettingsWords′.mir l12) ∷ ‵ (froom MMessage′.mir l11 0) ∷ ‵ (fdies MMessage′.mir l11) ∷ ‵ (froom tyBool l10 0) ∷ ‵ (fdies tyBool l10) ∷ ‵ (froom MReceived′.mir l9 0) ∷ ‵ (fdies MReceived′.mir l9) ∷ ‵ (froom (tyRef (named 5) mut (pointee (R-AnswerWords .written))) l8 0) ∷ ‵ (fdies (tyRef (named 5) mut (pointee (R-AnswerWords .written))) l8) ∷ ‵ (froom MStamp′.mir l7 0) ∷ ‵ (fdies MStamp′.mir l7) ∷ ‵ (froom (tyInt w64) l6 0) ∷ ‵ (fdies (tyInt w64) l6) ∷ ‵ (froom (sliceTy (tyRef (named 4) mut (tyInt w8))) l5 0) ∷ ‵ (fdies (sliceTy (tyRef (named 4) mut (tyInt w8))) l5) ∷ ‵ (froom (tyRef (named 3) mut (pointee (R-Watch .written))) l4 0) ∷ ‵ (fdies (tyRef (named 3) mut (pointee (R-Watch .written))) l4) ∷ ‵ (froom (sliceTy (tyRef (named 2) mut (pointee (R-MasterWords .written)))) l3 0) ∷ ‵ (fdies (sliceTy (tyRef (named 2) mut (pointee (R-MasterWords .written)))) l3) ∷ ‵ (froom (tyRef (named 1) mut (pointee (R-Servo .written))) l2 0) ∷ ‵ (fdies (tyRef (named 1) mut (pointee (R-Servo .written))) l2) ∷ ‵ (froom (tyRef (named 0) mut (pointee (R-UnitWords .written))) l1 0) ∷ ‵ (fdies (tyRef (named 0) mut (pointee (R-UnitWords .written))) l1) ∷ ‵ (froom tyUnit l0 0) ∷ ‵ (fdies tyUnit l0) ∷ []) (runs C Λ En mir′.t-33 (atRet En Post))
-      from-33 zs-8 len-9 p-4 w-3 e-6 is-7 left1 good u-24 g-25 u-28 g-29 left2 u-118 g-119 u-122 g-123 p-125 w-124 e-126 is-127 left5 u-142 g-143 p-145 w-144 e-146 is-147 p-151 w-150 e-152 is-153 left6 =
-          assigns ! (of-opd ! (unit-lit !)) (from ! (stop !)) (init ! 143 refl (tt, tt)) $
-          returns ! (look ! 143 refl) $
-          forget ! 143 refl $
-          move ! (143 ∷ 144 ∷ 141 ∷ 142 ∷ 139 ∷ 140 ∷ 137 ∷ 138 ∷ 135 ∷ 136 ∷ 133 ∷ 134 ∷ 131 ∷ 132 ∷ 129 ∷ 130 ∷ 127 ∷ 128 ∷ 125 ∷ 126 ∷ 123 ∷ 124 ∷ 121 ∷ 122 ∷ 119 ∷ 120 ∷ 117 ∷ 118 ∷ 115 ∷ 116 ∷ 113 ∷ 114 ∷ 111 ∷ 112 ∷ 109 ∷ 110 ∷ 107 ∷ 108 ∷ 105 ∷ 106 ∷ 103 ∷ 104 ∷ 101 ∷ 102 ∷ 99 ∷ 100 ∷ 97 ∷ 98 ∷ 95 ∷ 96 ∷ 93 ∷ 94 ∷ 91 ∷ 92 ∷ 89 ∷ 90 ∷ 87 ∷ 88 ∷ 85 ∷ 86 ∷ 83 ∷ 84 ∷ 81 ∷ 82 ∷ 79 ∷ 80 ∷ 77 ∷ 78 ∷ 75 ∷ 76 ∷ 73 ∷ 74 ∷ 71 ∷ 72 ∷ 69 ∷ 70 ∷ 67 ∷ 68 ∷ 65 ∷ 66 ∷ 63 ∷ 64 ∷ 61 ∷ 62 ∷ 59 ∷ 60 ∷ 57 ∷ 58 ∷ 55 ∷ 56 ∷ 53 ∷ 54 ∷ 51 ∷ 52 ∷ 49 ∷ 50 ∷ 47 ∷ 48 ∷ 45 ∷ 46 ∷ 43 ∷ 44 ∷ 41 ∷ 42 ∷ 39 ∷ 40 ∷ 37 ∷ 38 ∷ 35 ∷ 36 ∷ 33 ∷ 34 ∷ 31 ∷ 32 ∷ 29 ∷ 30 ∷ 27 ∷ 28 ∷ 25 ∷ 26 ∷ 23 ∷ 24 ∷ 21 ∷ 22 ∷ []) $
+      from-37 : (zs-8 : List ℕ) (len-9 : length zs-8 ≡ length h5) (p-4 : SReceived.Received) (w-3 : Val) (e-6 : (p-4 ≡ receivedBy (readOf h5)) × (zs-8 ≡ h5)) (is-7 : Is R-Received p-4 (w-3 ∷ [])) (left1 : Holds (not (p-4 .barred))) (good : Holds (not (not (eqb (length h3) 5)))) (u-24 : Val) (g-25 : Is R-SettingsWords (h1 .settings) (u-24 ∷ [])) (u-28 : Val) (g-29 : Is R-StateWords (h1 .state) (u-28 ∷ [])) (left2 : Holds (not (p-4 .announces))) (u-118 : Val) (g-119 : Is R-HalvesWords (h1 .halves) (u-118 ∷ [])) (u-122 : Val) (g-123 : Is R-DelaysWords (h1 .delays) (u-122 ∷ [])) (p-125 : STold.Told) (w-124 : Val) (e-126 : p-125 ≡ heardTold (h1 .settings) (h1 .state) (h1 .halves) (h1 .delays) (p-4 .message) h6 h7) (is-127 : Is R-Told p-125 (w-124 ∷ [])) (left5 : Holds (not (p-125 .barred))) (u-142 : Val) (g-143 : Is R-Servo h2 (u-142 ∷ [])) (p-145 : SServo.Servo) (w-144 : Val) (e-146 : p-145 ≡ servoAfter (h1 .settings) h2 (p-125 .found) (p-125 .steers) (p-125 .wipes)) (is-147 : Is R-Servo p-145 (w-144 ∷ [])) (p-151 : SAnswerWords.AnswerWords) (w-150 : Val) (e-152 : p-151 ≡ outputSaid (p-125 .code) (p-125 .sequence) (p-125 .found) (p-125 .steers) p-145) (is-153 : Is R-AnswerWords p-151 (w-150 ∷ [])) (left6 : Holds (not (p-125 .wipes))) → Sq W (‵ (fobs γ8 (R-AnswerWords .coded .code p-151)) ∷ ‵ (fbor κ8 (Body (mem R-AnswerWords) b8 o8 γ8)) ∷ ‵ (flft κ8 q8) ∷ ‵ (fobs γ2 (R-Servo .coded .code p-145)) ∷ ‵ (fbor κ2 (Body (mem R-Servo) b2 o2 γ2)) ∷ ‵ (flft κ2 q2) ∷ ‵ (fobs γ1 (R-UnitWords .coded .code (with-UnitWords-3 (with-UnitWords-2 (with-UnitWords-1 h1 (p-125 .state)) (p-125 .halves)) (p-125 .delays)))) ∷ ‵ (fbor κ1 (Body (mem R-UnitWords) b1 o1 γ1)) ∷ ‵ (flft κ1 q1) ∷ ‵ (MutSlice (named 4) κ5 R-u8 .own (x5 zs-8) ((sliceVal (b5, o5) (length h5)) ∷ [])) ∷ ‵ (flft κ5 q5) ∷ ‵ (flft κ4 q4) ∷ ‵ (flft κ3 q3) ∷ ‵ (ftrue) ∷ ‵ (R-Stamp .own h7 (u7 ∷ [])) ∷ ‵ (R-u64 .own h6 (u6 ∷ [])) ∷ ‵ (fobs γ4 (R-Watch .coded .code h4)) ∷ ‵ (fbor κ4 (Body (mem R-Watch) b4 o4 γ4)) ∷ ‵ (fobs γ3 (codedHoleys R-MasterWords .code (heres R-MasterWords h3))) ∷ ‵ (fbor κ3 (Held R-MasterWords (length h3) b3 o3 γ3)) ∷ ‵ (at-slice R-MasterWords (x3 h3) ((sliceVal (b3, o3) (length h3)) ∷ [])) ∷ ‵ (froom (tyRef erased mut (pointee (R-u8x128 .written))) l65 0) ∷ ‵ (fdies (tyRef erased mut (pointee (R-u8x128 .written))) l65) ∷ ‵ (froom (tyRef erased mut (pointee (R-i32x128 .written))) l64 0) ∷ ‵ (fdies (tyRef erased mut (pointee (R-i32x128 .written))) l64) ∷ ‵ (froom (tyRef erased mut (pointee (R-i64x128 .written))) l63 0) ∷ ‵ (fdies (tyRef erased mut (pointee (R-i64x128 .written))) l63) ∷ ‵ (froom MHead′.mir l62 0) ∷ ‵ (fdies MHead′.mir l62) ∷ ‵ (froom MAnswerWords′.mir l61 0) ∷ ‵ (fdies MAnswerWords′.mir l61) ∷ ‵ (froom MAnswerWords′.mir l60 0) ∷ ‵ (fdies MAnswerWords′.mir l60) ∷ ‵ (froom (tyRef erased mut (pointee (R-u8x128 .written))) l59 0) ∷ ‵ (fdies (tyRef erased mut (pointee (R-u8x128 .written))) l59) ∷ ‵ (froom (tyRef erased mut (pointee (R-i32x128 .written))) l58 0) ∷ ‵ (fdies (tyRef erased mut (pointee (R-i32x128 .written))) l58) ∷ ‵ (froom (tyRef erased mut (pointee (R-i64x128 .written))) l57 0) ∷ ‵ (fdies (tyRef erased mut (pointee (R-i64x128 .written))) l57) ∷ ‵ (froom MHead′.mir l56 0) ∷ ‵ (fdies MHead′.mir l56) ∷ ‵ (froom tyPtr l55 0) ∷ ‵ (fdies tyPtr l55) ∷ ‵ (froom tyPtr l54 0) ∷ ‵ (fdies tyPtr l54) ∷ ‵ (froom (tyInt w64) l53 0) ∷ ‵ (fdies (tyInt w64) l53) ∷ ‵ (froom MAnswerWords′.mir l52 0) ∷ ‵ (fdies MAnswerWords′.mir l52) ∷ ‵ (froom tyBool l51 0) ∷ ‵ (fdies tyBool l51) ∷ ‵ (froom tyPtr l50 0) ∷ ‵ (fdies tyPtr l50) ∷ ‵ (froom tyPtr l49 0) ∷ ‵ (fdies tyPtr l49) ∷ ‵ (froom tyPtr l48 0) ∷ ‵ (fdies tyPtr l48) ∷ ‵ (froom tyPtr l47 0) ∷ ‵ (fdies tyPtr l47) ∷ ‵ (froom MMasterWords′.mir l46 0) ∷ ‵ (fdies MMasterWords′.mir l46) ∷ ‵ (froom tyPtr l45 0) ∷ ‵ (fdies tyPtr l45) ∷ ‵ (froom MAnswerWords′.mir l44 0) ∷ ‵ (fdies MAnswerWords′.mir l44) ∷ ‵ (froom (tyInt w64) l43 0) ∷ ‵ (fdies (tyInt w64) l43) ∷ ‵ (froom MAnswerWords′.mir l42 0) ∷ ‵ (fdies MAnswerWords′.mir l42) ∷ ‵ (froom tyBool l41 0) ∷ ‵ (fdies tyBool l41) ∷ ‵ (froom (sliceTy (tyRef erased mut (tyInt w8))) l40 0) ∷ ‵ (fdies (sliceTy (tyRef erased mut (tyInt w8))) l40) ∷ ‵ (froom (tyRef erased mut (tyInt w8)) l39 0) ∷ ‵ (fdies (tyRef erased mut (tyInt w8)) l39) ∷ ‵ (froom (tyInt w16) l38 0) ∷ ‵ (fdies (tyInt w16) l38) ∷ ‵ (froom (tyInt w8) l37 0) ∷ ‵ (fdies (tyInt w8) l37) ∷ ‵ (froom MServo′.mir l36 0) ∷ ‵ (fdies MServo′.mir l36) ∷ ‵ (froom tyBool l35 0) ∷ ‵ (fdies tyBool l35) ∷ ‵ (froom tyBool l34 0) ∷ ‵ (fdies tyBool l34) ∷ ‵ (froom MAccepted′.mir l33 0) ∷ ‵ (fdies MAccepted′.mir l33) ∷ ‵ (froom MServo′.mir l32 0) ∷ ‵ (fdies MServo′.mir l32) ∷ ‵ (froom tyBool l31 0) ∷ ‵ (fdies tyBool l31) ∷ ‵ (froom MTold′.mir l30 0) ∷ ‵ (fdies MTold′.mir l30) ∷ ‵ (froom MDelaysWords′.mir l29 0) ∷ ‵ (fdies MDelaysWords′.mir l29) ∷ ‵ (froom MHalvesWords′.mir l28 0) ∷ ‵ (fdies MHalvesWords′.mir l28) ∷ ‵ (froom MEmptied′.mir l27 0) ∷ ‵ (fdies MEmptied′.mir l27) ∷ ‵ (froom tyBool l26 0) ∷ ‵ (fdies tyBool l26) ∷ ‵ (froom MHeld′.mir l25 0) ∷ ‵ (fdies MHeld′.mir l25) ∷ ‵ (froom MMasterWords′.mir l24 0) ∷ ‵ (fdies MMasterWords′.mir l24) ∷ ‵ (froom (tyInt w64) l23 0) ∷ ‵ (fdies (tyInt w64) l23) ∷ ‵ (froom tyBool l22 0) ∷ ‵ (fdies tyBool l22) ∷ ‵ (froom MSeat′.mir l21 0) ∷ ‵ (fdies MSeat′.mir l21) ∷ ‵ (froom MLooked′.mir l20 0) ∷ ‵ (fdies MLooked′.mir l20) ∷ ‵ (froom MLooked′.mir l19 0) ∷ ‵ (fdies MLooked′.mir l19) ∷ ‵ (froom MLooked′.mir l18 0) ∷ ‵ (fdies MLooked′.mir l18) ∷ ‵ (froom MLooked′.mir l17 0) ∷ ‵ (fdies MLooked′.mir l17) ∷ ‵ (froom MLooked′.mir l16 0) ∷ ‵ (fdies MLooked′.mir l16) ∷ ‵ (froom (tyInt w32) l15 0) ∷ ‵ (fdies (tyInt w32) l15) ∷ ‵ (froom tyBool l14 0) ∷ ‵ (fdies tyBool l14) ∷ ‵ (froom MStateWords′.mir l13 0) ∷ ‵ (fdies MStateWords′.mir l13) ∷ ‵ (froom MSettingsWords′.mir l12 0) ∷ ‵ (fdies MSettingsWords′.mir l12) ∷ ‵ (froom MMessage′.mir l11 0) ∷ ‵ (fdies MMessage′.mir l11) ∷ ‵ (froom tyBool l10 0) ∷ ‵ (fdies tyBool l10) ∷ ‵ (froom MReceived′.mir l9 0) ∷ ‵ (fdies MReceived′.mir l9) ∷ ‵ (froom (tyRef (named 5) mut (pointee (R-AnswerWords .written))) l8 0) ∷ ‵ (fdies (tyRef (named 5) mut (pointee (R-AnswerWords .written))) l8) ∷ ‵ (froom MStamp′.mir l7 0) ∷ ‵ (fdies MStamp′.mir l7) ∷ ‵ (froom (tyInt w64) l6 0) ∷ ‵ (fdies (tyInt w64) l6) ∷ ‵ (froom (sliceTy (tyRef (named 4) mut (tyInt w8))) l5 0) ∷ ‵ (fdies (sliceTy (tyRef (named 4) mut (tyInt w8))) l5) ∷ ‵ (froom (tyRef (named 3) mut (pointee (R-Watch .written))) l4 0) ∷ ‵ (fdies (tyRef (named 3) mut (pointee (R-Watch .written))) l4) ∷ ‵ (froom (sliceTy (tyRef (named 2) mut (pointee (R-MasterWords .written)))) l3 0) ∷ ‵ (fdies (sliceTy (tyRef (named 2) mut (pointee (R-MasterWords .written)))) l3) ∷ ‵ (froom (tyRef (named 1) mut (pointee (R-Servo .written))) l2 0) ∷ ‵ (fdies (tyRef (named 1) mut (pointee (R-Servo .written))) l2) ∷ ‵ (froom (tyRef (named 0) mut (pointee (R-UnitWords .written))) l1 0) ∷ ‵ (fdies (tyRef (named 0) mut (pointee (R-UnitWords .written))) l1) ∷ ‵ (froom tyUnit l0 0) ∷ ‵ (fdies tyUnit l0) ∷ []) (runs C Λ En mir′.t-37 (atRet En Post))
+      from-37 zs-8 len-9 p-4 w-3 e-6 is-7 left1 good u-24 g-25 u-28 g-29 left2 u-118 g-119 u-122 g-123 p-125 w-124 e-126 is-127 left5 u-142 g-143 p-145 w-144 e-146 is-147 p-151 w-150 e-152 is-153 left6 =
+          assigns ! (of-opd ! (unit-lit !)) (from ! (stop !)) (init ! 151 refl (tt, tt)) $
+          returns ! (look ! 151 refl) $
+          forget ! 151 refl $
+          move ! (151 ∷ 152 ∷ 149 ∷ 150 ∷ 147 ∷ 148 ∷ 145 ∷ 146 ∷ 143 ∷ 144 ∷ 141 ∷ 142 ∷ 139 ∷ 140 ∷ 137 ∷ 138 ∷ 135 ∷ 136 ∷ 133 ∷ 134 ∷ 131 ∷ 132 ∷ 129 ∷ 130 ∷ 127 ∷ 128 ∷ 125 ∷ 126 ∷ 123 ∷ 124 ∷ 121 ∷ 122 ∷ 119 ∷ 120 ∷ 117 ∷ 118 ∷ 115 ∷ 116 ∷ 113 ∷ 114 ∷ 111 ∷ 112 ∷ 109 ∷ 110 ∷ 107 ∷ 108 ∷ 105 ∷ 106 ∷ 103 ∷ 104 ∷ 101 ∷ 102 ∷ 99 ∷ 100 ∷ 97 ∷ 98 ∷ 95 ∷ 96 ∷ 93 ∷ 94 ∷ 91 ∷ 92 ∷ 89 ∷ 90 ∷ 87 ∷ 88 ∷ 85 ∷ 86 ∷ 83 ∷ 84 ∷ 81 ∷ 82 ∷ 79 ∷ 80 ∷ 77 ∷ 78 ∷ 75 ∷ 76 ∷ 73 ∷ 74 ∷ 71 ∷ 72 ∷ 69 ∷ 70 ∷ 67 ∷ 68 ∷ 65 ∷ 66 ∷ 63 ∷ 64 ∷ 61 ∷ 62 ∷ 59 ∷ 60 ∷ 57 ∷ 58 ∷ 55 ∷ 56 ∷ 53 ∷ 54 ∷ 51 ∷ 52 ∷ 49 ∷ 50 ∷ 47 ∷ 48 ∷ 45 ∷ 46 ∷ 43 ∷ 44 ∷ 41 ∷ 42 ∷ 39 ∷ 40 ∷ 37 ∷ 38 ∷ 35 ∷ 36 ∷ 33 ∷ 34 ∷ 31 ∷ 32 ∷ 29 ∷ 30 ∷ 27 ∷ 28 ∷ 25 ∷ 26 ∷ 23 ∷ 24 ∷ 21 ∷ 22 ∷ []) $
           freed _ _ (
           keep ! (6 ∷ 7 ∷ 8 ∷ 3 ∷ 4 ∷ 5 ∷ 18 ∷ 19 ∷ 12 ∷ 16 ∷ 17 ∷ 11 ∷ 9 ∷ 10 ∷ 0 ∷ 1 ∷ 2 ∷ 15 ∷ 14 ∷ 13 ∷ []) $
           by ! (exits-8 zs-8 len-9 p-4 w-3 e-6 is-7 left1 good u-24 g-25 u-28 g-29 left2 u-118 g-119 u-122 g-123 p-125 w-124 e-126 is-127 left5 u-142 g-143 p-145 w-144 e-146 is-147 p-151 w-150 e-152 is-153 left6))
 
-      from-30 : (zs-8 : List ℕ) (len-9 : length zs-8 ≡ length h5) (p-4 : SReceived.Received) (w-3 : Val) (e-6 : (p-4 ≡ receivedBy (readOf h5)) × (zs-8 ≡ h5)) (is-7 : Is R-Received p-4 (w-3 ∷ [])) (left1 : Holds (not (p-4 .barred))) (good : Holds (not (not (eqb (length h3) 5)))) (u-24 : Val) (g-25 : Is R-SettingsWords (h1 .settings) (u-24 ∷ [])) (u-28 : Val) (g-29 : Is R-StateWords (h1 .state) (u-28 ∷ [])) (left2 : Holds (not (p-4 .announces))) (u-118 : Val) (g-119 : Is R-HalvesWords (h1 .halves) (u-118 ∷ [])) (u-122 : Val) (g-123 : Is R-DelaysWords (h1 .delays) (u-122 ∷ [])) (p-125 : STold.Told) (w-124 : Val) (e-126 : p-125 ≡ heardTold (h1 .settings) (h1 .state) (h1 .halves) (h1 .delays) (p-4 .message) h6 h7) (is-127 : Is R-Told p-125 (w-124 ∷ [])) (left5 : Holds (not (p-125 .barred))) (u-142 : Val) (g-143 : Is R-Servo h2 (u-142 ∷ [])) (p-145 : SServo.Servo) (w-144 : Val) (e-146 : p-145 ≡ servoAfter (h1 .settings) h2 (p-125 .found) (p-125 .steers) (p-125 .wipes)) (is-147 : Is R-Servo p-145 (w-144 ∷ [])) (p-151 : SAnswerWords.AnswerWords) (w-150 : Val) (e-152 : p-151 ≡ outputSaid (p-125 .code) (p-125 .sequence) (p-125 .found) (p-125 .steers) p-145) (is-153 : Is R-AnswerWords p-151 (w-150 ∷ [])) → Sq W (‵ (fobs γ8 (R-AnswerWords .coded .code p-151)) ∷ ‵ (fbor κ8 (Body (mem R-AnswerWords) b8 o8 γ8)) ∷ ‵ (flft κ8 q8) ∷ ‵ (fobs γ2 (R-Servo .coded .code p-145)) ∷ ‵ (fbor κ2 (Body (mem R-Servo) b2 o2 γ2)) ∷ ‵ (flft κ2 q2) ∷ ‵ (fobs γ1 (R-UnitWords .coded .code (with-UnitWords-3 (with-UnitWords-2 (with-UnitWords-1 h1 (p-125 .state)) (p-125 .halves)) (p-125 .delays)))) ∷ ‵ (fbor κ1 (Body (mem R-UnitWords) b1 o1 γ1)) ∷ ‵ (flft κ1 q1) ∷ ‵ (MutSlice (named 4) κ5 R-u8 .own (x5 zs-8) ((sliceVal (b5, o5) (length h5)) ∷ [])) ∷ ‵ (flft κ5 q5) ∷ ‵ (flft κ4 q4) ∷ ‵ (flft κ3 q3) ∷ ‵ (ftrue) ∷ ‵ (R-Stamp .own h7 (u7 ∷ [])) ∷ ‵ (R-u64 .own h6 (u6 ∷ [])) ∷ ‵ (fobs γ4 (R-Watch .coded .code h4)) ∷ ‵ (fbor κ4 (Body (mem R-Watch) b4 o4 γ4)) ∷ ‵ (fobs γ3 (codedHoleys R-MasterWords .code (heres R-MasterWords h3))) ∷ ‵ (fbor κ3 (Held R-MasterWords (length h3) b3 o3 γ3)) ∷ ‵ (at-slice R-MasterWords (x3 h3) ((sliceVal (b3, o3) (length h3)) ∷ [])) ∷ ‵ (froom (tyRef erased mut (pointee (R-u8x128 .written))) l61 0) ∷ ‵ (fdies (tyRef erased mut (pointee (R-u8x128 .written))) l61) ∷ ‵ (froom (tyRef erased mut (pointee (R-i32x128 .written))) l60 0) ∷ ‵ (fdies (tyRef erased mut (pointee (R-i32x128 .written))) l60) ∷ ‵ (froom (tyRef erased mut (pointee (R-i64x128 .written))) l59 0) ∷ ‵ (fdies (tyRef erased mut (pointee (R-i64x128 .written))) l59) ∷ ‵ (froom MHead′.mir l58 0) ∷ ‵ (fdies MHead′.mir l58) ∷ ‵ (froom MAnswerWords′.mir l57 0) ∷ ‵ (fdies MAnswerWords′.mir l57) ∷ ‵ (froom MAnswerWords′.mir l56 0) ∷ ‵ (fdies MAnswerWords′.mir l56) ∷ ‵ (froom (tyRef erased mut (pointee (R-u8x128 .written))) l55 0) ∷ ‵ (fdies (tyRef erased mut (pointee (R-u8x128 .written))) l55) ∷ ‵ (froom (tyRef erased mut (pointee (R-i32x128 .written))) l54 0) ∷ ‵ (fdies (tyRef erased mut (pointee (R-i32x128 .written))) l54) ∷ ‵ (froom (tyRef erased mut (pointee (R-i64x128 .written))) l53 0) ∷ ‵ (fdies (tyRef erased mut (pointee (R-i64x128 .written))) l53) ∷ ‵ (froom MHead′.mir l52 0) ∷ ‵ (fdies MHead′.mir l52) ∷ ‵ (froom tyPtr l51 0) ∷ ‵ (fdies tyPtr l51) ∷ ‵ (froom tyPtr l50 0) ∷ ‵ (fdies tyPtr l50) ∷ ‵ (froom (tyInt w64) l49 0) ∷ ‵ (fdies (tyInt w64) l49) ∷ ‵ (froom MAnswerWords′.mir l48 0) ∷ ‵ (fdies MAnswerWords′.mir l48) ∷ ‵ (froom tyBool l47 0) ∷ ‵ (fdies tyBool l47) ∷ ‵ (froom tyPtr l46 0) ∷ ‵ (fdies tyPtr l46) ∷ ‵ (froom tyPtr l45 0) ∷ ‵ (fdies tyPtr l45) ∷ ‵ (froom tyPtr l44 0) ∷ ‵ (fdies tyPtr l44) ∷ ‵ (froom tyPtr l43 0) ∷ ‵ (fdies tyPtr l43) ∷ ‵ (froom MMasterWords′.mir l42 0) ∷ ‵ (fdies MMasterWords′.mir l42) ∷ ‵ (froom tyPtr l41 0) ∷ ‵ (fdies tyPtr l41) ∷ ‵ (froom MAnswerWords′.mir l40 0) ∷ ‵ (fdies MAnswerWords′.mir l40) ∷ ‵ (froom (tyInt w64) l39 0) ∷ ‵ (fdies (tyInt w64) l39) ∷ ‵ (froom MAnswerWords′.mir l38 0) ∷ ‵ (fdies MAnswerWords′.mir l38) ∷ ‵ (froom tyBool l37 0) ∷ ‵ (fdies tyBool l37) ∷ ‵ (froom (sliceTy (tyRef erased mut (tyInt w8))) l36 0) ∷ ‵ (fdies (sliceTy (tyRef erased mut (tyInt w8))) l36) ∷ ‵ (froom (tyRef erased mut (tyInt w8)) l35 0) ∷ ‵ (fdies (tyRef erased mut (tyInt w8)) l35) ∷ ‵ (froom tyBool l34 0) ∷ ‵ (fdies tyBool l34) ∷ ‵ (froom MServo′.mir l33 0) ∷ ‵ (fdies MServo′.mir l33) ∷ ‵ (froom MServo′.mir l32 0) ∷ ‵ (fdies MServo′.mir l32) ∷ ‵ (froom tyBool l31 0) ∷ ‵ (fdies tyBool l31) ∷ ‵ (fat fullShare MTold′.mir l30 0 w-124) ∷ ‵ (fdies MTold′.mir l30) ∷ ‵ (froom MDelaysWords′.mir l29 0) ∷ ‵ (fdies MDelaysWords′.mir l29) ∷ ‵ (froom MHalvesWords′.mir l28 0) ∷ ‵ (fdies MHalvesWords′.mir l28) ∷ ‵ (froom MEmptied′.mir l27 0) ∷ ‵ (fdies MEmptied′.mir l27) ∷ ‵ (froom tyBool l26 0) ∷ ‵ (fdies tyBool l26) ∷ ‵ (froom MHeld′.mir l25 0) ∷ ‵ (fdies MHeld′.mir l25) ∷ ‵ (froom MMasterWords′.mir l24 0) ∷ ‵ (fdies MMasterWords′.mir l24) ∷ ‵ (froom (tyInt w64) l23 0) ∷ ‵ (fdies (tyInt w64) l23) ∷ ‵ (froom tyBool l22 0) ∷ ‵ (fdies tyBool l22) ∷ ‵ (froom MSeat′.mir l21 0) ∷ ‵ (fdies MSeat′.mir l21) ∷ ‵ (froom MLooked′.mir l20 0) ∷ ‵ (fdies MLooked′.mir l20) ∷ ‵ (froom MLooked′.mir l19 0) ∷ ‵ (fdies MLooked′.mir l19) ∷ ‵ (froom MLooked′.mir l18 0) ∷ ‵ (fdies MLooked′.mir l18) ∷ ‵ (froom MLooked′.mir l17 0) ∷ ‵ (fdies MLooked′.mir l17) ∷ ‵ (froom MLooked′.mir l16 0) ∷ ‵ (fdies MLooked′.mir l16) ∷ ‵ (froom (tyInt w32) l15 0) ∷ ‵ (fdies (tyInt w32) l15) ∷ ‵ (froom tyBool l14 0) ∷ ‵ (fdies tyBool l14) ∷ ‵ (froom MStateWords′.mir l13 0) ∷ ‵ (fdies MStateWords′.mir l13) ∷ ‵ (froom MSettingsWords′.mir l12 0) ∷ ‵ (fdies MSettingsWords′.mir l12) ∷ ‵ (froom MMessage′.mir l11 0) ∷ ‵ (fdies MMessage′.mir l11) ∷ ‵ (froom tyBool l10 0) ∷ ‵ (fdies tyBool l10) ∷ ‵ (froom MReceived′.mir l9 0) ∷ ‵ (fdies MReceived′.mir l9) ∷ ‵ (froom (tyRef (named 5) mut (pointee (R-AnswerWords .written))) l8 0) ∷ ‵ (fdies (tyRef (named 5) mut (pointee (R-AnswerWords .written))) l8) ∷ ‵ (froom MStamp′.mir l7 0) ∷ ‵ (fdies MStamp′.mir l7) ∷ ‵ (froom (tyInt w64) l6 0) ∷ ‵ (fdies (tyInt w64) l6) ∷ ‵ (froom (sliceTy (tyRef (named 4) mut (tyInt w8))) l5 0) ∷ ‵ (fdies (sliceTy (tyRef (named 4) mut (tyInt w8))) l5) ∷ ‵ (fat fullShare (tyRef (named 3) mut (pointee (R-Watch .written))) l4 0 (vptr b4 o4)) ∷ ‵ (fdies (tyRef (named 3) mut (pointee (R-Watch .written))) l4) ∷ ‵ (froom (sliceTy (tyRef (named 2) mut (pointee (R-MasterWords .written)))) l3 0) ∷ ‵ (fdies (sliceTy (tyRef (named 2) mut (pointee (R-MasterWords .written)))) l3) ∷ ‵ (froom (tyRef (named 1) mut (pointee (R-Servo .written))) l2 0) ∷ ‵ (fdies (tyRef (named 1) mut (pointee (R-Servo .written))) l2) ∷ ‵ (froom (tyRef (named 0) mut (pointee (R-UnitWords .written))) l1 0) ∷ ‵ (fdies (tyRef (named 0) mut (pointee (R-UnitWords .written))) l1) ∷ ‵ (froom tyUnit l0 0) ∷ ‵ (fdies tyUnit l0) ∷ []) (runs C Λ En mir′.t-30 (atRet En Post))
-      from-30 zs-8 len-9 p-4 w-3 e-6 is-7 left1 good u-24 g-25 u-28 g-29 left2 u-118 g-119 u-122 g-123 p-125 w-124 e-126 is-127 left5 u-142 g-143 p-145 w-144 e-146 is-147 p-151 w-150 e-152 is-153 =
-          rewrite ! 83 (λ (u : Val). ‵ (fat fullShare MTold′.mir l30 0 u)) ((parts-Told p-125 w-124 is-127) .whole-is) refl $
-          assigns ! (of-opd ! (load ! (from ! (fld ! {τ = tyBool} {d = off-Told-8} field-Told-8 (stop !))) (look-in ! 83 (sub ! {ν = name-of MTold′.mir} {τs = tys-of MTold′.mir} 8 {τ = tyBool} {d = off-Told-8} field-Told-8 (whole !))))) (from ! (stop !)) (init ! 75 refl (lawful-bool 𝓤 H A W .typed (p-125 .wipes) _ ((parts-Told p-125 w-124 is-127) .pg8) .0)) $
-          assigns ! (of-opd ! (load ! (from ! (stop !)) (look ! 75 refl))) (from ! (stop !)) (init ! 69 refl (lawful-bool 𝓤 H A W .typed (p-125 .wipes) _ ((parts-Told p-125 w-124 is-127) .pg8) .0)) $
-          rewrite ! 69 (λ (u : Val). ‵ (fat fullShare tyBool l37 0 u)) (ap only (tells-bool (p-125 .wipes) (((parts-Told p-125 w-124 is-127) .pu8) ∷ []) ((parts-Told p-125 w-124 is-127) .pg8))) refl $
+      from-35 : (zs-8 : List ℕ) (len-9 : length zs-8 ≡ length h5) (p-4 : SReceived.Received) (w-3 : Val) (e-6 : (p-4 ≡ receivedBy (readOf h5)) × (zs-8 ≡ h5)) (is-7 : Is R-Received p-4 (w-3 ∷ [])) (left1 : Holds (not (p-4 .barred))) (good : Holds (not (not (eqb (length h3) 5)))) (u-24 : Val) (g-25 : Is R-SettingsWords (h1 .settings) (u-24 ∷ [])) (u-28 : Val) (g-29 : Is R-StateWords (h1 .state) (u-28 ∷ [])) (left2 : Holds (not (p-4 .announces))) (u-118 : Val) (g-119 : Is R-HalvesWords (h1 .halves) (u-118 ∷ [])) (u-122 : Val) (g-123 : Is R-DelaysWords (h1 .delays) (u-122 ∷ [])) (p-125 : STold.Told) (w-124 : Val) (e-126 : p-125 ≡ heardTold (h1 .settings) (h1 .state) (h1 .halves) (h1 .delays) (p-4 .message) h6 h7) (is-127 : Is R-Told p-125 (w-124 ∷ [])) (left5 : Holds (not (p-125 .barred))) (u-142 : Val) (g-143 : Is R-Servo h2 (u-142 ∷ [])) (p-145 : SServo.Servo) (w-144 : Val) (e-146 : p-145 ≡ servoAfter (h1 .settings) h2 (p-125 .found) (p-125 .steers) (p-125 .wipes)) (is-147 : Is R-Servo p-145 (w-144 ∷ [])) (p-151 : SAnswerWords.AnswerWords) (w-150 : Val) (e-152 : p-151 ≡ outputSaid (p-125 .code) (p-125 .sequence) (p-125 .found) (p-125 .steers) p-145) (is-153 : Is R-AnswerWords p-151 (w-150 ∷ [])) → Sq W (‵ (fobs γ8 (R-AnswerWords .coded .code p-151)) ∷ ‵ (fbor κ8 (Body (mem R-AnswerWords) b8 o8 γ8)) ∷ ‵ (flft κ8 q8) ∷ ‵ (fobs γ2 (R-Servo .coded .code p-145)) ∷ ‵ (fbor κ2 (Body (mem R-Servo) b2 o2 γ2)) ∷ ‵ (flft κ2 q2) ∷ ‵ (fobs γ1 (R-UnitWords .coded .code (with-UnitWords-3 (with-UnitWords-2 (with-UnitWords-1 h1 (p-125 .state)) (p-125 .halves)) (p-125 .delays)))) ∷ ‵ (fbor κ1 (Body (mem R-UnitWords) b1 o1 γ1)) ∷ ‵ (flft κ1 q1) ∷ ‵ (MutSlice (named 4) κ5 R-u8 .own (x5 zs-8) ((sliceVal (b5, o5) (length h5)) ∷ [])) ∷ ‵ (flft κ5 q5) ∷ ‵ (flft κ4 q4) ∷ ‵ (flft κ3 q3) ∷ ‵ (ftrue) ∷ ‵ (R-Stamp .own h7 (u7 ∷ [])) ∷ ‵ (R-u64 .own h6 (u6 ∷ [])) ∷ ‵ (fobs γ4 (R-Watch .coded .code h4)) ∷ ‵ (fbor κ4 (Body (mem R-Watch) b4 o4 γ4)) ∷ ‵ (fobs γ3 (codedHoleys R-MasterWords .code (heres R-MasterWords h3))) ∷ ‵ (fbor κ3 (Held R-MasterWords (length h3) b3 o3 γ3)) ∷ ‵ (at-slice R-MasterWords (x3 h3) ((sliceVal (b3, o3) (length h3)) ∷ [])) ∷ ‵ (froom (tyRef erased mut (pointee (R-u8x128 .written))) l65 0) ∷ ‵ (fdies (tyRef erased mut (pointee (R-u8x128 .written))) l65) ∷ ‵ (froom (tyRef erased mut (pointee (R-i32x128 .written))) l64 0) ∷ ‵ (fdies (tyRef erased mut (pointee (R-i32x128 .written))) l64) ∷ ‵ (froom (tyRef erased mut (pointee (R-i64x128 .written))) l63 0) ∷ ‵ (fdies (tyRef erased mut (pointee (R-i64x128 .written))) l63) ∷ ‵ (froom MHead′.mir l62 0) ∷ ‵ (fdies MHead′.mir l62) ∷ ‵ (froom MAnswerWords′.mir l61 0) ∷ ‵ (fdies MAnswerWords′.mir l61) ∷ ‵ (froom MAnswerWords′.mir l60 0) ∷ ‵ (fdies MAnswerWords′.mir l60) ∷ ‵ (froom (tyRef erased mut (pointee (R-u8x128 .written))) l59 0) ∷ ‵ (fdies (tyRef erased mut (pointee (R-u8x128 .written))) l59) ∷ ‵ (froom (tyRef erased mut (pointee (R-i32x128 .written))) l58 0) ∷ ‵ (fdies (tyRef erased mut (pointee (R-i32x128 .written))) l58) ∷ ‵ (froom (tyRef erased mut (pointee (R-i64x128 .written))) l57 0) ∷ ‵ (fdies (tyRef erased mut (pointee (R-i64x128 .written))) l57) ∷ ‵ (froom MHead′.mir l56 0) ∷ ‵ (fdies MHead′.mir l56) ∷ ‵ (froom tyPtr l55 0) ∷ ‵ (fdies tyPtr l55) ∷ ‵ (froom tyPtr l54 0) ∷ ‵ (fdies tyPtr l54) ∷ ‵ (froom (tyInt w64) l53 0) ∷ ‵ (fdies (tyInt w64) l53) ∷ ‵ (froom MAnswerWords′.mir l52 0) ∷ ‵ (fdies MAnswerWords′.mir l52) ∷ ‵ (froom tyBool l51 0) ∷ ‵ (fdies tyBool l51) ∷ ‵ (froom tyPtr l50 0) ∷ ‵ (fdies tyPtr l50) ∷ ‵ (froom tyPtr l49 0) ∷ ‵ (fdies tyPtr l49) ∷ ‵ (froom tyPtr l48 0) ∷ ‵ (fdies tyPtr l48) ∷ ‵ (froom tyPtr l47 0) ∷ ‵ (fdies tyPtr l47) ∷ ‵ (froom MMasterWords′.mir l46 0) ∷ ‵ (fdies MMasterWords′.mir l46) ∷ ‵ (froom tyPtr l45 0) ∷ ‵ (fdies tyPtr l45) ∷ ‵ (froom MAnswerWords′.mir l44 0) ∷ ‵ (fdies MAnswerWords′.mir l44) ∷ ‵ (froom (tyInt w64) l43 0) ∷ ‵ (fdies (tyInt w64) l43) ∷ ‵ (froom MAnswerWords′.mir l42 0) ∷ ‵ (fdies MAnswerWords′.mir l42) ∷ ‵ (froom tyBool l41 0) ∷ ‵ (fdies tyBool l41) ∷ ‵ (froom (sliceTy (tyRef erased mut (tyInt w8))) l40 0) ∷ ‵ (fdies (sliceTy (tyRef erased mut (tyInt w8))) l40) ∷ ‵ (froom (tyRef erased mut (tyInt w8)) l39 0) ∷ ‵ (fdies (tyRef erased mut (tyInt w8)) l39) ∷ ‵ (froom (tyInt w16) l38 0) ∷ ‵ (fdies (tyInt w16) l38) ∷ ‵ (froom (tyInt w8) l37 0) ∷ ‵ (fdies (tyInt w8) l37) ∷ ‵ (froom MServo′.mir l36 0) ∷ ‵ (fdies MServo′.mir l36) ∷ ‵ (fat fullShare tyBool l35 0 ((parts-Told p-125 w-124 is-127) .pu8)) ∷ ‵ (fdies tyBool l35) ∷ ‵ (froom tyBool l34 0) ∷ ‵ (fdies tyBool l34) ∷ ‵ (froom MAccepted′.mir l33 0) ∷ ‵ (fdies MAccepted′.mir l33) ∷ ‵ (froom MServo′.mir l32 0) ∷ ‵ (fdies MServo′.mir l32) ∷ ‵ (froom tyBool l31 0) ∷ ‵ (fdies tyBool l31) ∷ ‵ (froom MTold′.mir l30 0) ∷ ‵ (fdies MTold′.mir l30) ∷ ‵ (froom MDelaysWords′.mir l29 0) ∷ ‵ (fdies MDelaysWords′.mir l29) ∷ ‵ (froom MHalvesWords′.mir l28 0) ∷ ‵ (fdies MHalvesWords′.mir l28) ∷ ‵ (froom MEmptied′.mir l27 0) ∷ ‵ (fdies MEmptied′.mir l27) ∷ ‵ (froom tyBool l26 0) ∷ ‵ (fdies tyBool l26) ∷ ‵ (froom MHeld′.mir l25 0) ∷ ‵ (fdies MHeld′.mir l25) ∷ ‵ (froom MMasterWords′.mir l24 0) ∷ ‵ (fdies MMasterWords′.mir l24) ∷ ‵ (froom (tyInt w64) l23 0) ∷ ‵ (fdies (tyInt w64) l23) ∷ ‵ (froom tyBool l22 0) ∷ ‵ (fdies tyBool l22) ∷ ‵ (froom MSeat′.mir l21 0) ∷ ‵ (fdies MSeat′.mir l21) ∷ ‵ (froom MLooked′.mir l20 0) ∷ ‵ (fdies MLooked′.mir l20) ∷ ‵ (froom MLooked′.mir l19 0) ∷ ‵ (fdies MLooked′.mir l19) ∷ ‵ (froom MLooked′.mir l18 0) ∷ ‵ (fdies MLooked′.mir l18) ∷ ‵ (froom MLooked′.mir l17 0) ∷ ‵ (fdies MLooked′.mir l17) ∷ ‵ (froom MLooked′.mir l16 0) ∷ ‵ (fdies MLooked′.mir l16) ∷ ‵ (froom (tyInt w32) l15 0) ∷ ‵ (fdies (tyInt w32) l15) ∷ ‵ (froom tyBool l14 0) ∷ ‵ (fdies tyBool l14) ∷ ‵ (froom MStateWords′.mir l13 0) ∷ ‵ (fdies MStateWords′.mir l13) ∷ ‵ (froom MSettingsWords′.mir l12 0) ∷ ‵ (fdies MSettingsWords′.mir l12) ∷ ‵ (froom MMessage′.mir l11 0) ∷ ‵ (fdies MMessage′.mir l11) ∷ ‵ (froom tyBool l10 0) ∷ ‵ (fdies tyBool l10) ∷ ‵ (froom MReceived′.mir l9 0) ∷ ‵ (fdies MReceived′.mir l9) ∷ ‵ (froom (tyRef (named 5) mut (pointee (R-AnswerWords .written))) l8 0) ∷ ‵ (fdies (tyRef (named 5) mut (pointee (R-AnswerWords .written))) l8) ∷ ‵ (froom MStamp′.mir l7 0) ∷ ‵ (fdies MStamp′.mir l7) ∷ ‵ (froom (tyInt w64) l6 0) ∷ ‵ (fdies (tyInt w64) l6) ∷ ‵ (froom (sliceTy (tyRef (named 4) mut (tyInt w8))) l5 0) ∷ ‵ (fdies (sliceTy (tyRef (named 4) mut (tyInt w8))) l5) ∷ ‵ (fat fullShare (tyRef (named 3) mut (pointee (R-Watch .written))) l4 0 (vptr b4 o4)) ∷ ‵ (fdies (tyRef (named 3) mut (pointee (R-Watch .written))) l4) ∷ ‵ (froom (sliceTy (tyRef (named 2) mut (pointee (R-MasterWords .written)))) l3 0) ∷ ‵ (fdies (sliceTy (tyRef (named 2) mut (pointee (R-MasterWords .written)))) l3) ∷ ‵ (froom (tyRef (named 1) mut (pointee (R-Servo .written))) l2 0) ∷ ‵ (fdies (tyRef (named 1) mut (pointee (R-Servo .written))) l2) ∷ ‵ (froom (tyRef (named 0) mut (pointee (R-UnitWords .written))) l1 0) ∷ ‵ (fdies (tyRef (named 0) mut (pointee (R-UnitWords .written))) l1) ∷ ‵ (froom tyUnit l0 0) ∷ ‵ (fdies tyUnit l0) ∷ []) (runs C Λ En mir′.t-35 (atRet En Post))
+      from-35 zs-8 len-9 p-4 w-3 e-6 is-7 left1 good u-24 g-25 u-28 g-29 left2 u-118 g-119 u-122 g-123 p-125 w-124 e-126 is-127 left5 u-142 g-143 p-145 w-144 e-146 is-147 p-151 w-150 e-152 is-153 =
+          assigns ! (of-opd ! (load ! (from ! (stop !)) (look ! 81 refl))) (from ! (stop !)) (init ! 69 refl (lawful-bool 𝓤 H A W .typed (p-125 .wipes) _ ((parts-Told p-125 w-124 is-127) .pg8) .0)) $
+          rewrite ! 69 (λ (u : Val). ‵ (fat fullShare tyBool l41 0 u)) (ap only (tells-bool (p-125 .wipes) (((parts-Told p-125 w-124 is-127) .pu8) ∷ []) ((parts-Told p-125 w-124 is-127) .pg8))) refl $
           first ! $ branches ! (load ! (from ! (stop !)) (look ! 69 refl))
-          (λ held6. forget ! 83 refl $ forget ! 75 refl $ forget ! 69 refl $ from-32-1 _ refl zs-8 len-9 p-4 w-3 e-6 is-7 left1 good u-24 g-25 u-28 g-29 left2 u-118 g-119 u-122 g-123 p-125 w-124 e-126 is-127 left5 u-142 g-143 p-145 w-144 e-146 is-147 p-151 w-150 e-152 is-153 held6)
-          (λ left6. skips ! $ exec ! C Λ En mir′.t-33 (atRet En Post) $
-          forget ! 135 refl $ forget ! 83 refl $ forget ! 75 refl $ forget ! 69 refl $
-          from-33 zs-8 len-9 p-4 w-3 e-6 is-7 left1 good u-24 g-25 u-28 g-29 left2 u-118 g-119 u-122 g-123 p-125 w-124 e-126 is-127 left5 u-142 g-143 p-145 w-144 e-146 is-147 p-151 w-150 e-152 is-153 left6)
+          (λ held6. forget ! 81 refl $ forget ! 69 refl $ from-36-1 _ refl zs-8 len-9 p-4 w-3 e-6 is-7 left1 good u-24 g-25 u-28 g-29 left2 u-118 g-119 u-122 g-123 p-125 w-124 e-126 is-127 left5 u-142 g-143 p-145 w-144 e-146 is-147 p-151 w-150 e-152 is-153 held6)
+          (λ left6. skips ! $ exec ! C Λ En mir′.t-37 (atRet En Post) $
+          forget ! 143 refl $ forget ! 81 refl $ forget ! 69 refl $
+          from-37 zs-8 len-9 p-4 w-3 e-6 is-7 left1 good u-24 g-25 u-28 g-29 left2 u-118 g-119 u-122 g-123 p-125 w-124 e-126 is-127 left5 u-142 g-143 p-145 w-144 e-146 is-147 p-151 w-150 e-152 is-153 left6)
 
-      from-28 : (zs-8 : List ℕ) (len-9 : length zs-8 ≡ length h5) (p-4 : SReceived.Received) (w-3 : Val) (e-6 : (p-4 ≡ receivedBy (readOf h5)) × (zs-8 ≡ h5)) (is-7 : Is R-Received p-4 (w-3 ∷ [])) (left1 : Holds (not (p-4 .barred))) (good : Holds (not (not (eqb (length h3) 5)))) (u-24 : Val) (g-25 : Is R-SettingsWords (h1 .settings) (u-24 ∷ [])) (u-28 : Val) (g-29 : Is R-StateWords (h1 .state) (u-28 ∷ [])) (left2 : Holds (not (p-4 .announces))) (u-118 : Val) (g-119 : Is R-HalvesWords (h1 .halves) (u-118 ∷ [])) (u-122 : Val) (g-123 : Is R-DelaysWords (h1 .delays) (u-122 ∷ [])) (p-125 : STold.Told) (w-124 : Val) (e-126 : p-125 ≡ heardTold (h1 .settings) (h1 .state) (h1 .halves) (h1 .delays) (p-4 .message) h6 h7) (is-127 : Is R-Told p-125 (w-124 ∷ [])) (left5 : Holds (not (p-125 .barred))) (u-142 : Val) (g-143 : Is R-Servo h2 (u-142 ∷ [])) (p-145 : SServo.Servo) (w-144 : Val) (e-146 : p-145 ≡ servoAfter (h1 .settings) h2 (p-125 .found) (p-125 .steers) (p-125 .wipes)) (is-147 : Is R-Servo p-145 (w-144 ∷ [])) → Sq W (‵ (fobs γ2 (R-Servo .coded .code p-145)) ∷ ‵ (fbor κ2 (Body (mem R-Servo) b2 o2 γ2)) ∷ ‵ (flft κ2 q2) ∷ ‵ (fobs γ1 (R-UnitWords .coded .code (with-UnitWords-3 (with-UnitWords-2 (with-UnitWords-1 h1 (p-125 .state)) (p-125 .halves)) (p-125 .delays)))) ∷ ‵ (fbor κ1 (Body (mem R-UnitWords) b1 o1 γ1)) ∷ ‵ (flft κ1 q1) ∷ ‵ (MutSlice (named 4) κ5 R-u8 .own (x5 zs-8) ((sliceVal (b5, o5) (length h5)) ∷ [])) ∷ ‵ (flft κ5 q5) ∷ ‵ (flft κ8 q8) ∷ ‵ (flft κ4 q4) ∷ ‵ (flft κ3 q3) ∷ ‵ (ftrue) ∷ ‵ (fobs γ8 (R-AnswerWords .coded .code h8)) ∷ ‵ (fbor κ8 (Body (mem R-AnswerWords) b8 o8 γ8)) ∷ ‵ (R-Stamp .own h7 (u7 ∷ [])) ∷ ‵ (R-u64 .own h6 (u6 ∷ [])) ∷ ‵ (fobs γ4 (R-Watch .coded .code h4)) ∷ ‵ (fbor κ4 (Body (mem R-Watch) b4 o4 γ4)) ∷ ‵ (fobs γ3 (codedHoleys R-MasterWords .code (heres R-MasterWords h3))) ∷ ‵ (fbor κ3 (Held R-MasterWords (length h3) b3 o3 γ3)) ∷ ‵ (at-slice R-MasterWords (x3 h3) ((sliceVal (b3, o3) (length h3)) ∷ [])) ∷ ‵ (froom (tyRef erased mut (pointee (R-u8x128 .written))) l61 0) ∷ ‵ (fdies (tyRef erased mut (pointee (R-u8x128 .written))) l61) ∷ ‵ (froom (tyRef erased mut (pointee (R-i32x128 .written))) l60 0) ∷ ‵ (fdies (tyRef erased mut (pointee (R-i32x128 .written))) l60) ∷ ‵ (froom (tyRef erased mut (pointee (R-i64x128 .written))) l59 0) ∷ ‵ (fdies (tyRef erased mut (pointee (R-i64x128 .written))) l59) ∷ ‵ (froom MHead′.mir l58 0) ∷ ‵ (fdies MHead′.mir l58) ∷ ‵ (froom MAnswerWords′.mir l57 0) ∷ ‵ (fdies MAnswerWords′.mir l57) ∷ ‵ (froom MAnswerWords′.mir l56 0) ∷ ‵ (fdies MAnswerWords′.mir l56) ∷ ‵ (froom (tyRef erased mut (pointee (R-u8x128 .written))) l55 0) ∷ ‵ (fdies (tyRef erased mut (pointee (R-u8x128 .written))) l55) ∷ ‵ (froom (tyRef erased mut (pointee (R-i32x128 .written))) l54 0) ∷ ‵ (fdies (tyRef erased mut (pointee (R-i32x128 .written))) l54) ∷ ‵ (froom (tyRef erased mut (pointee (R-i64x128 .written))) l53 0) ∷ ‵ (fdies (tyRef erased mut (pointee (R-i64x128 .written))) l53) ∷ ‵ (froom MHead′.mir l52 0) ∷ ‵ (fdies MHead′.mir l52) ∷ ‵ (froom tyPtr l51 0) ∷ ‵ (fdies tyPtr l51) ∷ ‵ (froom tyPtr l50 0) ∷ ‵ (fdies tyPtr l50) ∷ ‵ (froom (tyInt w64) l49 0) ∷ ‵ (fdies (tyInt w64) l49) ∷ ‵ (froom MAnswerWords′.mir l48 0) ∷ ‵ (fdies MAnswerWords′.mir l48) ∷ ‵ (froom tyBool l47 0) ∷ ‵ (fdies tyBool l47) ∷ ‵ (froom tyPtr l46 0) ∷ ‵ (fdies tyPtr l46) ∷ ‵ (froom tyPtr l45 0) ∷ ‵ (fdies tyPtr l45) ∷ ‵ (froom tyPtr l44 0) ∷ ‵ (fdies tyPtr l44) ∷ ‵ (froom tyPtr l43 0) ∷ ‵ (fdies tyPtr l43) ∷ ‵ (froom MMasterWords′.mir l42 0) ∷ ‵ (fdies MMasterWords′.mir l42) ∷ ‵ (froom tyPtr l41 0) ∷ ‵ (fdies tyPtr l41) ∷ ‵ (froom MAnswerWords′.mir l40 0) ∷ ‵ (fdies MAnswerWords′.mir l40) ∷ ‵ (froom (tyInt w64) l39 0) ∷ ‵ (fdies (tyInt w64) l39) ∷ ‵ (froom MAnswerWords′.mir l38 0) ∷ ‵ (fdies MAnswerWords′.mir l38) ∷ ‵ (froom tyBool l37 0) ∷ ‵ (fdies tyBool l37) ∷ ‵ (froom (sliceTy (tyRef erased mut (tyInt w8))) l36 0) ∷ ‵ (fdies (sliceTy (tyRef erased mut (tyInt w8))) l36) ∷ ‵ (froom (tyRef erased mut (tyInt w8)) l35 0) ∷ ‵ (fdies (tyRef erased mut (tyInt w8)) l35) ∷ ‵ (froom tyBool l34 0) ∷ ‵ (fdies tyBool l34) ∷ ‵ (fat fullShare MServo′.mir l33 0 w-144) ∷ ‵ (fdies MServo′.mir l33) ∷ ‵ (froom MServo′.mir l32 0) ∷ ‵ (fdies MServo′.mir l32) ∷ ‵ (froom tyBool l31 0) ∷ ‵ (fdies tyBool l31) ∷ ‵ (fat fullShare MTold′.mir l30 0 w-124) ∷ ‵ (fdies MTold′.mir l30) ∷ ‵ (froom MDelaysWords′.mir l29 0) ∷ ‵ (fdies MDelaysWords′.mir l29) ∷ ‵ (froom MHalvesWords′.mir l28 0) ∷ ‵ (fdies MHalvesWords′.mir l28) ∷ ‵ (froom MEmptied′.mir l27 0) ∷ ‵ (fdies MEmptied′.mir l27) ∷ ‵ (froom tyBool l26 0) ∷ ‵ (fdies tyBool l26) ∷ ‵ (froom MHeld′.mir l25 0) ∷ ‵ (fdies MHeld′.mir l25) ∷ ‵ (froom MMasterWords′.mir l24 0) ∷ ‵ (fdies MMasterWords′.mir l24) ∷ ‵ (froom (tyInt w64) l23 0) ∷ ‵ (fdies (tyInt w64) l23) ∷ ‵ (froom tyBool l22 0) ∷ ‵ (fdies tyBool l22) ∷ ‵ (froom MSeat′.mir l21 0) ∷ ‵ (fdies MSeat′.mir l21) ∷ ‵ (froom MLooked′.mir l20 0) ∷ ‵ (fdies MLooked′.mir l20) ∷ ‵ (froom MLooked′.mir l19 0) ∷ ‵ (fdies MLooked′.mir l19) ∷ ‵ (froom MLooked′.mir l18 0) ∷ ‵ (fdies MLooked′.mir l18) ∷ ‵ (froom MLooked′.mir l17 0) ∷ ‵ (fdies MLooked′.mir l17) ∷ ‵ (froom MLooked′.mir l16 0) ∷ ‵ (fdies MLooked′.mir l16) ∷ ‵ (froom (tyInt w32) l15 0) ∷ ‵ (fdies (tyInt w32) l15) ∷ ‵ (froom tyBool l14 0) ∷ ‵ (fdies tyBool l14) ∷ ‵ (froom MStateWords′.mir l13 0) ∷ ‵ (fdies MStateWords′.mir l13) ∷ ‵ (froom MSettingsWords′.mir l12 0) ∷ ‵ (fdies MSettingsWords′.mir l12) ∷ ‵ (froom MMessage′.mir l11 0) ∷ ‵ (fdies MMessage′.mir l11) ∷ ‵ (froom tyBool l10 0) ∷ ‵ (fdies tyBool l10) ∷ ‵ (froom MReceived′.mir l9 0) ∷ ‵ (fdies MReceived′.mir l9) ∷ ‵ (fat fullShare (tyRef (named 5) mut (pointee (R-AnswerWords .written))) l8 0 (vptr b8 o8)) ∷ ‵ (fdies (tyRef (named 5) mut (pointee (R-AnswerWords .written))) l8) ∷ ‵ (froom MStamp′.mir l7 0) ∷ ‵ (fdies MStamp′.mir l7) ∷ ‵ (froom (tyInt w64) l6 0) ∷ ‵ (fdies (tyInt w64) l6) ∷ ‵ (froom (sliceTy (tyRef (named 4) mut (tyInt w8))) l5 0) ∷ ‵ (fdies (sliceTy (tyRef (named 4) mut (tyInt w8))) l5) ∷ ‵ (fat fullShare (tyRef (named 3) mut (pointee (R-Watch .written))) l4 0 (vptr b4 o4)) ∷ ‵ (fdies (tyRef (named 3) mut (pointee (R-Watch .written))) l4) ∷ ‵ (froom (sliceTy (tyRef (named 2) mut (pointee (R-MasterWords .written)))) l3 0) ∷ ‵ (fdies (sliceTy (tyRef (named 2) mut (pointee (R-MasterWords .written)))) l3) ∷ ‵ (froom (tyRef (named 1) mut (pointee (R-Servo .written))) l2 0) ∷ ‵ (fdies (tyRef (named 1) mut (pointee (R-Servo .written))) l2) ∷ ‵ (froom (tyRef (named 0) mut (pointee (R-UnitWords .written))) l1 0) ∷ ‵ (fdies (tyRef (named 0) mut (pointee (R-UnitWords .written))) l1) ∷ ‵ (froom tyUnit l0 0) ∷ ‵ (fdies tyUnit l0) ∷ []) (runs C Λ En mir′.t-28 (atRet En Post))
-      from-28 zs-8 len-9 p-4 w-3 e-6 is-7 left1 good u-24 g-25 u-28 g-29 left2 u-118 g-119 u-122 g-123 p-125 w-124 e-126 is-127 left5 u-142 g-143 p-145 w-144 e-146 is-147 =
-          use0 W (raw (C-say 𝓤 H A at-mem run .pre (to-say p-125 w-124 p-145 w-144))) (goes-say p-125 w-124 is-127 p-145 w-144 is-147) $
-          calls-at ! fm (C-say 𝓤 H A at-mem run) known-say (to-say p-125 w-124 p-145 w-144) (and-then ! (load ! (from ! (stop !)) (look ! 84 refl)) (and-then ! (load ! (from ! (stop !)) (look ! 78 refl)) (no-more !))) (λ w-150.
-          use1 W (later (some (λ (p-151 : SAnswerWords.AnswerWords). (‵ ftrue ⊛ ‵ (R-AnswerWords .own p-151 (w-150 ∷ []))) ⊛ raw (ensured 𝓤 H A f-say.ended (f-say.clauses 𝓤 H A at-mem run) tt (p-125, (p-145, tt)) tt p-151)))) (id⊢ 𝓤 _) $ await ! tt $
+      from-31 : (zs-8 : List ℕ) (len-9 : length zs-8 ≡ length h5) (p-4 : SReceived.Received) (w-3 : Val) (e-6 : (p-4 ≡ receivedBy (readOf h5)) × (zs-8 ≡ h5)) (is-7 : Is R-Received p-4 (w-3 ∷ [])) (left1 : Holds (not (p-4 .barred))) (good : Holds (not (not (eqb (length h3) 5)))) (u-24 : Val) (g-25 : Is R-SettingsWords (h1 .settings) (u-24 ∷ [])) (u-28 : Val) (g-29 : Is R-StateWords (h1 .state) (u-28 ∷ [])) (left2 : Holds (not (p-4 .announces))) (u-118 : Val) (g-119 : Is R-HalvesWords (h1 .halves) (u-118 ∷ [])) (u-122 : Val) (g-123 : Is R-DelaysWords (h1 .delays) (u-122 ∷ [])) (p-125 : STold.Told) (w-124 : Val) (e-126 : p-125 ≡ heardTold (h1 .settings) (h1 .state) (h1 .halves) (h1 .delays) (p-4 .message) h6 h7) (is-127 : Is R-Told p-125 (w-124 ∷ [])) (left5 : Holds (not (p-125 .barred))) (u-142 : Val) (g-143 : Is R-Servo h2 (u-142 ∷ [])) (p-145 : SServo.Servo) (w-144 : Val) (e-146 : p-145 ≡ servoAfter (h1 .settings) h2 (p-125 .found) (p-125 .steers) (p-125 .wipes)) (is-147 : Is R-Servo p-145 (w-144 ∷ [])) → Sq W (‵ (fobs γ2 (R-Servo .coded .code p-145)) ∷ ‵ (fbor κ2 (Body (mem R-Servo) b2 o2 γ2)) ∷ ‵ (flft κ2 q2) ∷ ‵ (fobs γ1 (R-UnitWords .coded .code (with-UnitWords-3 (with-UnitWords-2 (with-UnitWords-1 h1 (p-125 .state)) (p-125 .halves)) (p-125 .delays)))) ∷ ‵ (fbor κ1 (Body (mem R-UnitWords) b1 o1 γ1)) ∷ ‵ (flft κ1 q1) ∷ ‵ (MutSlice (named 4) κ5 R-u8 .own (x5 zs-8) ((sliceVal (b5, o5) (length h5)) ∷ [])) ∷ ‵ (flft κ5 q5) ∷ ‵ (flft κ8 q8) ∷ ‵ (flft κ4 q4) ∷ ‵ (flft κ3 q3) ∷ ‵ (ftrue) ∷ ‵ (fobs γ8 (R-AnswerWords .coded .code h8)) ∷ ‵ (fbor κ8 (Body (mem R-AnswerWords) b8 o8 γ8)) ∷ ‵ (R-Stamp .own h7 (u7 ∷ [])) ∷ ‵ (R-u64 .own h6 (u6 ∷ [])) ∷ ‵ (fobs γ4 (R-Watch .coded .code h4)) ∷ ‵ (fbor κ4 (Body (mem R-Watch) b4 o4 γ4)) ∷ ‵ (fobs γ3 (codedHoleys R-MasterWords .code (heres R-MasterWords h3))) ∷ ‵ (fbor κ3 (Held R-MasterWords (length h3) b3 o3 γ3)) ∷ ‵ (at-slice R-MasterWords (x3 h3) ((sliceVal (b3, o3) (length h3)) ∷ [])) ∷ ‵ (froom (tyRef erased mut (pointee (R-u8x128 .written))) l65 0) ∷ ‵ (fdies (tyRef erased mut (pointee (R-u8x128 .written))) l65) ∷ ‵ (froom (tyRef erased mut (pointee (R-i32x128 .written))) l64 0) ∷ ‵ (fdies (tyRef erased mut (pointee (R-i32x128 .written))) l64) ∷ ‵ (froom (tyRef erased mut (pointee (R-i64x128 .written))) l63 0) ∷ ‵ (fdies (tyRef erased mut (pointee (R-i64x128 .written))) l63) ∷ ‵ (froom MHead′.mir l62 0) ∷ ‵ (fdies MHead′.mir l62) ∷ ‵ (froom MAnswerWords′.mir l61 0) ∷ ‵ (fdies MAnswerWords′.mir l61) ∷ ‵ (froom MAnswerWords′.mir l60 0) ∷ ‵ (fdies MAnswerWords′.mir l60) ∷ ‵ (froom (tyRef erased mut (pointee (R-u8x128 .written))) l59 0) ∷ ‵ (fdies (tyRef erased mut (pointee (R-u8x128 .written))) l59) ∷ ‵ (froom (tyRef erased mut (pointee (R-i32x128 .written))) l58 0) ∷ ‵ (fdies (tyRef erased mut (pointee (R-i32x128 .written))) l58) ∷ ‵ (froom (tyRef erased mut (pointee (R-i64x128 .written))) l57 0) ∷ ‵ (fdies (tyRef erased mut (pointee (R-i64x128 .written))) l57) ∷ ‵ (froom MHead′.mir l56 0) ∷ ‵ (fdies MHead′.mir l56) ∷ ‵ (froom tyPtr l55 0) ∷ ‵ (fdies tyPtr l55) ∷ ‵ (froom tyPtr l54 0) ∷ ‵ (fdies tyPtr l54) ∷ ‵ (froom (tyInt w64) l53 0) ∷ ‵ (fdies (tyInt w64) l53) ∷ ‵ (froom MAnswerWords′.mir l52 0) ∷ ‵ (fdies MAnswerWords′.mir l52) ∷ ‵ (froom tyBool l51 0) ∷ ‵ (fdies tyBool l51) ∷ ‵ (froom tyPtr l50 0) ∷ ‵ (fdies tyPtr l50) ∷ ‵ (froom tyPtr l49 0) ∷ ‵ (fdies tyPtr l49) ∷ ‵ (froom tyPtr l48 0) ∷ ‵ (fdies tyPtr l48) ∷ ‵ (froom tyPtr l47 0) ∷ ‵ (fdies tyPtr l47) ∷ ‵ (froom MMasterWords′.mir l46 0) ∷ ‵ (fdies MMasterWords′.mir l46) ∷ ‵ (froom tyPtr l45 0) ∷ ‵ (fdies tyPtr l45) ∷ ‵ (froom MAnswerWords′.mir l44 0) ∷ ‵ (fdies MAnswerWords′.mir l44) ∷ ‵ (froom (tyInt w64) l43 0) ∷ ‵ (fdies (tyInt w64) l43) ∷ ‵ (froom MAnswerWords′.mir l42 0) ∷ ‵ (fdies MAnswerWords′.mir l42) ∷ ‵ (froom tyBool l41 0) ∷ ‵ (fdies tyBool l41) ∷ ‵ (froom (sliceTy (tyRef erased mut (tyInt w8))) l40 0) ∷ ‵ (fdies (sliceTy (tyRef erased mut (tyInt w8))) l40) ∷ ‵ (froom (tyRef erased mut (tyInt w8)) l39 0) ∷ ‵ (fdies (tyRef erased mut (tyInt w8)) l39) ∷ ‵ (froom (tyInt w16) l38 0) ∷ ‵ (fdies (tyInt w16) l38) ∷ ‵ (froom (tyInt w8) l37 0) ∷ ‵ (fdies (tyInt w8) l37) ∷ ‵ (fat fullShare MServo′.mir l36 0 w-144) ∷ ‵ (fdies MServo′.mir l36) ∷ ‵ (fat fullShare tyBool l35 0 ((parts-Told p-125 w-124 is-127) .pu8)) ∷ ‵ (fdies tyBool l35) ∷ ‵ (fat fullShare tyBool l34 0 ((parts-Told p-125 w-124 is-127) .pu9)) ∷ ‵ (fdies tyBool l34) ∷ ‵ (fat fullShare MAccepted′.mir l33 0 ((parts-Told p-125 w-124 is-127) .pu3)) ∷ ‵ (fdies MAccepted′.mir l33) ∷ ‵ (froom MServo′.mir l32 0) ∷ ‵ (fdies MServo′.mir l32) ∷ ‵ (froom tyBool l31 0) ∷ ‵ (fdies tyBool l31) ∷ ‵ (fat fullShare MTold′.mir l30 0 (vstruct (ofList ((parts-Told p-125 w-124 is-127) .pu0 ∷ (parts-Told p-125 w-124 is-127) .pu1 ∷ (parts-Told p-125 w-124 is-127) .pu2 ∷ (parts-Told p-125 w-124 is-127) .pu3 ∷ (parts-Told p-125 w-124 is-127) .pu4 ∷ (parts-Told p-125 w-124 is-127) .pu5 ∷ (parts-Told p-125 w-124 is-127) .pu6 ∷ (parts-Told p-125 w-124 is-127) .pu7 ∷ (parts-Told p-125 w-124 is-127) .pu8 ∷ (parts-Told p-125 w-124 is-127) .pu9 ∷ [])))) ∷ ‵ (fdies MTold′.mir l30) ∷ ‵ (froom MDelaysWords′.mir l29 0) ∷ ‵ (fdies MDelaysWords′.mir l29) ∷ ‵ (froom MHalvesWords′.mir l28 0) ∷ ‵ (fdies MHalvesWords′.mir l28) ∷ ‵ (froom MEmptied′.mir l27 0) ∷ ‵ (fdies MEmptied′.mir l27) ∷ ‵ (froom tyBool l26 0) ∷ ‵ (fdies tyBool l26) ∷ ‵ (froom MHeld′.mir l25 0) ∷ ‵ (fdies MHeld′.mir l25) ∷ ‵ (froom MMasterWords′.mir l24 0) ∷ ‵ (fdies MMasterWords′.mir l24) ∷ ‵ (froom (tyInt w64) l23 0) ∷ ‵ (fdies (tyInt w64) l23) ∷ ‵ (froom tyBool l22 0) ∷ ‵ (fdies tyBool l22) ∷ ‵ (froom MSeat′.mir l21 0) ∷ ‵ (fdies MSeat′.mir l21) ∷ ‵ (froom MLooked′.mir l20 0) ∷ ‵ (fdies MLooked′.mir l20) ∷ ‵ (froom MLooked′.mir l19 0) ∷ ‵ (fdies MLooked′.mir l19) ∷ ‵ (froom MLooked′.mir l18 0) ∷ ‵ (fdies MLooked′.mir l18) ∷ ‵ (froom MLooked′.mir l17 0) ∷ ‵ (fdies MLooked′.mir l17) ∷ ‵ (froom MLooked′.mir l16 0) ∷ ‵ (fdies MLooked′.mir l16) ∷ ‵ (froom (tyInt w32) l15 0) ∷ ‵ (fdies (tyInt w32) l15) ∷ ‵ (froom tyBool l14 0) ∷ ‵ (fdies tyBool l14) ∷ ‵ (froom MStateWords′.mir l13 0) ∷ ‵ (fdies MStateWords′.mir l13) ∷ ‵ (froom MSettingsWords′.mir l12 0) ∷ ‵ (fdies MSettingsWords′.mir l12) ∷ ‵ (froom MMessage′.mir l11 0) ∷ ‵ (fdies MMessage′.mir l11) ∷ ‵ (froom tyBool l10 0) ∷ ‵ (fdies tyBool l10) ∷ ‵ (froom MReceived′.mir l9 0) ∷ ‵ (fdies MReceived′.mir l9) ∷ ‵ (fat fullShare (tyRef (named 5) mut (pointee (R-AnswerWords .written))) l8 0 (vptr b8 o8)) ∷ ‵ (fdies (tyRef (named 5) mut (pointee (R-AnswerWords .written))) l8) ∷ ‵ (froom MStamp′.mir l7 0) ∷ ‵ (fdies MStamp′.mir l7) ∷ ‵ (froom (tyInt w64) l6 0) ∷ ‵ (fdies (tyInt w64) l6) ∷ ‵ (froom (sliceTy (tyRef (named 4) mut (tyInt w8))) l5 0) ∷ ‵ (fdies (sliceTy (tyRef (named 4) mut (tyInt w8))) l5) ∷ ‵ (fat fullShare (tyRef (named 3) mut (pointee (R-Watch .written))) l4 0 (vptr b4 o4)) ∷ ‵ (fdies (tyRef (named 3) mut (pointee (R-Watch .written))) l4) ∷ ‵ (froom (sliceTy (tyRef (named 2) mut (pointee (R-MasterWords .written)))) l3 0) ∷ ‵ (fdies (sliceTy (tyRef (named 2) mut (pointee (R-MasterWords .written)))) l3) ∷ ‵ (froom (tyRef (named 1) mut (pointee (R-Servo .written))) l2 0) ∷ ‵ (fdies (tyRef (named 1) mut (pointee (R-Servo .written))) l2) ∷ ‵ (froom (tyRef (named 0) mut (pointee (R-UnitWords .written))) l1 0) ∷ ‵ (fdies (tyRef (named 0) mut (pointee (R-UnitWords .written))) l1) ∷ ‵ (froom tyUnit l0 0) ∷ ‵ (fdies tyUnit l0) ∷ []) (runs C Λ En mir′.t-31 (atRet En Post))
+      from-31 zs-8 len-9 p-4 w-3 e-6 is-7 left1 good u-24 g-25 u-28 g-29 left2 u-118 g-119 u-122 g-123 p-125 w-124 e-126 is-127 left5 u-142 g-143 p-145 w-144 e-146 is-147 =
+          assigns ! (of-opd ! (load ! (from ! (fld ! {τ = (tyInt w8)} {d = off-Told-6} field-Told-6 (stop !))) (look-in ! 91 (sub ! {ν = name-of MTold′.mir} {τs = tys-of MTold′.mir} 6 {τ = (tyInt w8)} {d = off-Told-6} field-Told-6 (whole !))))) (from ! (stop !)) (init ! 77 refl (lawful-u8 𝓤 H A W .typed (p-125 .code) _ ((parts-Told p-125 w-124 is-127) .pg6) .0)) $
+          assigns ! (of-opd ! (load ! (from ! (fld ! {τ = (tyInt w16)} {d = off-Told-4} field-Told-4 (stop !))) (look-in ! 91 (sub ! {ν = name-of MTold′.mir} {τs = tys-of MTold′.mir} 4 {τ = (tyInt w16)} {d = off-Told-4} field-Told-4 (whole !))))) (from ! (stop !)) (init ! 75 refl (lawful-u16 𝓤 H A W .typed (p-125 .sequence) _ ((parts-Told p-125 w-124 is-127) .pg4) .0)) $
+          use0 W (raw (C-say 𝓤 H A at-mem run .pre (to-say (p-125 .code) ((parts-Told p-125 w-124 is-127) .pu6) (p-125 .sequence) ((parts-Told p-125 w-124 is-127) .pu4) (p-125 .found) ((parts-Told p-125 w-124 is-127) .pu3) (p-125 .steers) ((parts-Told p-125 w-124 is-127) .pu9) p-145 w-144))) (goes-say (p-125 .code) ((parts-Told p-125 w-124 is-127) .pu6) ((parts-Told p-125 w-124 is-127) .pg6) (p-125 .sequence) ((parts-Told p-125 w-124 is-127) .pu4) ((parts-Told p-125 w-124 is-127) .pg4) (p-125 .found) ((parts-Told p-125 w-124 is-127) .pu3) ((parts-Told p-125 w-124 is-127) .pg3) (p-125 .steers) ((parts-Told p-125 w-124 is-127) .pu9) ((parts-Told p-125 w-124 is-127) .pg9) p-145 w-144 is-147) $
+          calls-at ! fm (C-say 𝓤 H A at-mem run) known-say (to-say (p-125 .code) ((parts-Told p-125 w-124 is-127) .pu6) (p-125 .sequence) ((parts-Told p-125 w-124 is-127) .pu4) (p-125 .found) ((parts-Told p-125 w-124 is-127) .pu3) (p-125 .steers) ((parts-Told p-125 w-124 is-127) .pu9) p-145 w-144) (and-then ! (load ! (from ! (stop !)) (look ! 78 refl)) (and-then ! (load ! (from ! (stop !)) (look ! 76 refl)) (and-then ! (load ! (from ! (stop !)) (look ! 86 refl)) (and-then ! (load ! (from ! (stop !)) (look ! 84 refl)) (and-then ! (load ! (from ! (stop !)) (look ! 80 refl)) (no-more !)))))) (λ w-150.
+          use1 W (later (some (λ (p-151 : SAnswerWords.AnswerWords). (‵ ftrue ⊛ ‵ (R-AnswerWords .own p-151 (w-150 ∷ []))) ⊛ raw (ensured 𝓤 H A f-say.ended (f-say.clauses 𝓤 H A at-mem run) tt ((p-125 .code), ((p-125 .sequence), ((p-125 .found), ((p-125 .steers), (p-145, tt))))) tt p-151)))) (id⊢ 𝓤 _) $ await ! tt $
           pick ! (λ p-151.
           split ! $
           move ! (1 ∷ []) $
-          use1 W (raw (fact 𝓤 (p-151 ≡ outputSaid (p-125 .code) (p-125 .sequence) (p-125 .found) (p-125 .steers) p-145))) (ensures-say 𝓤 H A at-mem run p-125 p-145 p-151) $
+          use1 W (raw (fact 𝓤 (p-151 ≡ outputSaid (p-125 .code) (p-125 .sequence) (p-125 .found) (p-125 .steers) p-145))) (ensures-say 𝓤 H A at-mem run (p-125 .code) (p-125 .sequence) (p-125 .found) (p-125 .steers) p-145 p-151) $
           heard ! (p-151 ≡ outputSaid (p-125 .code) (p-125 .sequence) (p-125 .found) (p-125 .steers) p-145) (λ e-152.
           split ! $
           drop ! $
@@ -2748,44 +2748,46 @@ module _ {M : Type 1} (𝓤 : URA M) (H : Heap 𝓤) (A : Atoms 𝓤) (W : Given
           peeks ! R-AnswerWords (Is R-AnswerWords) (shows 𝓤 H A R-AnswerWords) h8 vs-154 (λ g-155.
           rewrite ! 0 (λ (us : List Val). ‵ (R-AnswerWords .own h8 us)) (lone-AnswerWords h8 vs-154 g-155) refl $
           rewrite ! 1 (λ (us : List Val). ‵ (cellAt fullShare (R-AnswerWords .mir) us b8 o8)) (lone-AnswerWords h8 vs-154 g-155) refl $
-          assigns ! (of-opd ! (load ! (from ! (stop !)) (look ! 31 refl))) (from ! (hop ! (look ! 129 refl) (stop !))) (store-raw ! 1 refl (lawful-AnswerWords 𝓤 H A W .typed p-151 _ is-153 .0)) $
+          assigns ! (of-opd ! (load ! (from ! (stop !)) (look ! 31 refl))) (from ! (hop ! (look ! 137 refl) (stop !))) (store-raw ! 1 refl (lawful-AnswerWords 𝓤 H A W .typed p-151 _ is-153 .0)) $
           drop ! $
           owned ! R-AnswerWords (Is R-AnswerWords) (makes-AnswerWords 𝓤 H A W) p-151 _ is-153 $
           move ! (1 ∷ 0 ∷ 2 ∷ 3 ∷ 4 ∷ []) $
           closes ! tt R-AnswerWords p-151 (w-150 ∷ []) b8 o8 $
-          forget ! 127 refl $ forget ! 77 refl $ forget ! 29 refl $
-          from-30 zs-8 len-9 p-4 w-3 e-6 is-7 left1 good u-24 g-25 u-28 g-29 left2 u-118 g-119 u-122 g-123 p-125 w-124 e-126 is-127 left5 u-142 g-143 p-145 w-144 e-146 is-147 p-151 w-150 e-152 is-153))))))
+          forget ! 135 refl $ forget ! 91 refl $ forget ! 85 refl $ forget ! 83 refl $ forget ! 79 refl $ forget ! 77 refl $ forget ! 75 refl $ forget ! 29 refl $
+          from-35 zs-8 len-9 p-4 w-3 e-6 is-7 left1 good u-24 g-25 u-28 g-29 left2 u-118 g-119 u-122 g-123 p-125 w-124 e-126 is-127 left5 u-142 g-143 p-145 w-144 e-146 is-147 p-151 w-150 e-152 is-153))))))
 
-      from-26 : (zs-8 : List ℕ) (len-9 : length zs-8 ≡ length h5) (p-4 : SReceived.Received) (w-3 : Val) (e-6 : (p-4 ≡ receivedBy (readOf h5)) × (zs-8 ≡ h5)) (is-7 : Is R-Received p-4 (w-3 ∷ [])) (left1 : Holds (not (p-4 .barred))) (good : Holds (not (not (eqb (length h3) 5)))) (u-24 : Val) (g-25 : Is R-SettingsWords (h1 .settings) (u-24 ∷ [])) (u-28 : Val) (g-29 : Is R-StateWords (h1 .state) (u-28 ∷ [])) (left2 : Holds (not (p-4 .announces))) (u-118 : Val) (g-119 : Is R-HalvesWords (h1 .halves) (u-118 ∷ [])) (u-122 : Val) (g-123 : Is R-DelaysWords (h1 .delays) (u-122 ∷ [])) (p-125 : STold.Told) (w-124 : Val) (e-126 : p-125 ≡ heardTold (h1 .settings) (h1 .state) (h1 .halves) (h1 .delays) (p-4 .message) h6 h7) (is-127 : Is R-Told p-125 (w-124 ∷ [])) (left5 : Holds (not (p-125 .barred))) (u-142 : Val) (g-143 : Is R-Servo h2 (u-142 ∷ [])) → Sq W (‵ (fobs γ2 (R-Servo .coded .code h2)) ∷ ‵ (fbor κ2 (Body (mem R-Servo) b2 o2 γ2)) ∷ ‵ (flft κ2 q2) ∷ ‵ (fobs γ1 (R-UnitWords .coded .code (with-UnitWords-3 (with-UnitWords-2 (with-UnitWords-1 h1 (p-125 .state)) (p-125 .halves)) (p-125 .delays)))) ∷ ‵ (fbor κ1 (Body (mem R-UnitWords) b1 o1 γ1)) ∷ ‵ (flft κ1 q1) ∷ ‵ (MutSlice (named 4) κ5 R-u8 .own (x5 zs-8) ((sliceVal (b5, o5) (length h5)) ∷ [])) ∷ ‵ (flft κ5 q5) ∷ ‵ (flft κ8 q8) ∷ ‵ (flft κ4 q4) ∷ ‵ (flft κ3 q3) ∷ ‵ (ftrue) ∷ ‵ (fobs γ8 (R-AnswerWords .coded .code h8)) ∷ ‵ (fbor κ8 (Body (mem R-AnswerWords) b8 o8 γ8)) ∷ ‵ (R-Stamp .own h7 (u7 ∷ [])) ∷ ‵ (R-u64 .own h6 (u6 ∷ [])) ∷ ‵ (fobs γ4 (R-Watch .coded .code h4)) ∷ ‵ (fbor κ4 (Body (mem R-Watch) b4 o4 γ4)) ∷ ‵ (fobs γ3 (codedHoleys R-MasterWords .code (heres R-MasterWords h3))) ∷ ‵ (fbor κ3 (Held R-MasterWords (length h3) b3 o3 γ3)) ∷ ‵ (at-slice R-MasterWords (x3 h3) ((sliceVal (b3, o3) (length h3)) ∷ [])) ∷ ‵ (froom (tyRef erased mut (pointee (R-u8x128 .written))) l61 0) ∷ ‵ (fdies (tyRef erased mut (pointee (R-u8x128 .written))) l61) ∷ ‵ (froom (tyRef erased mut (pointee (R-i32x128 .written))) l60 0) ∷ ‵ (fdies (tyRef erased mut (pointee (R-i32x128 .written))) l60) ∷ ‵ (froom (tyRef erased mut (pointee (R-i64x128 .written))) l59 0) ∷ ‵ (fdies (tyRef erased mut (pointee (R-i64x128 .written))) l59) ∷ ‵ (froom MHead′.mir l58 0) ∷ ‵ (fdies MHead′.mir l58) ∷ ‵ (froom MAnswerWords′.mir l57 0) ∷ ‵ (fdies MAnswerWords′.mir l57) ∷ ‵ (froom MAnswerWords′.mir l56 0) ∷ ‵ (fdies MAnswerWords′.mir l56) ∷ ‵ (froom (tyRef erased mut (pointee (R-u8x128 .written))) l55 0) ∷ ‵ (fdies (tyRef erased mut (pointee (R-u8x128 .written))) l55) ∷ ‵ (froom (tyRef erased mut (pointee (R-i32x128 .written))) l54 0) ∷ ‵ (fdies (tyRef erased mut (pointee (R-i32x128 .written))) l54) ∷ ‵ (froom (tyRef erased mut (pointee (R-i64x128 .written))) l53 0) ∷ ‵ (fdies (tyRef erased mut (pointee (R-i64x128 .written))) l53) ∷ ‵ (froom MHead′.mir l52 0) ∷ ‵ (fdies MHead′.mir l52) ∷ ‵ (froom tyPtr l51 0) ∷ ‵ (fdies tyPtr l51) ∷ ‵ (froom tyPtr l50 0) ∷ ‵ (fdies tyPtr l50) ∷ ‵ (froom (tyInt w64) l49 0) ∷ ‵ (fdies (tyInt w64) l49) ∷ ‵ (froom MAnswerWords′.mir l48 0) ∷ ‵ (fdies MAnswerWords′.mir l48) ∷ ‵ (froom tyBool l47 0) ∷ ‵ (fdies tyBool l47) ∷ ‵ (froom tyPtr l46 0) ∷ ‵ (fdies tyPtr l46) ∷ ‵ (froom tyPtr l45 0) ∷ ‵ (fdies tyPtr l45) ∷ ‵ (froom tyPtr l44 0) ∷ ‵ (fdies tyPtr l44) ∷ ‵ (froom tyPtr l43 0) ∷ ‵ (fdies tyPtr l43) ∷ ‵ (froom MMasterWords′.mir l42 0) ∷ ‵ (fdies MMasterWords′.mir l42) ∷ ‵ (froom tyPtr l41 0) ∷ ‵ (fdies tyPtr l41) ∷ ‵ (froom MAnswerWords′.mir l40 0) ∷ ‵ (fdies MAnswerWords′.mir l40) ∷ ‵ (froom (tyInt w64) l39 0) ∷ ‵ (fdies (tyInt w64) l39) ∷ ‵ (froom MAnswerWords′.mir l38 0) ∷ ‵ (fdies MAnswerWords′.mir l38) ∷ ‵ (froom tyBool l37 0) ∷ ‵ (fdies tyBool l37) ∷ ‵ (froom (sliceTy (tyRef erased mut (tyInt w8))) l36 0) ∷ ‵ (fdies (sliceTy (tyRef erased mut (tyInt w8))) l36) ∷ ‵ (froom (tyRef erased mut (tyInt w8)) l35 0) ∷ ‵ (fdies (tyRef erased mut (tyInt w8)) l35) ∷ ‵ (froom tyBool l34 0) ∷ ‵ (fdies tyBool l34) ∷ ‵ (froom MServo′.mir l33 0) ∷ ‵ (fdies MServo′.mir l33) ∷ ‵ (fat fullShare MServo′.mir l32 0 u-142) ∷ ‵ (fdies MServo′.mir l32) ∷ ‵ (froom tyBool l31 0) ∷ ‵ (fdies tyBool l31) ∷ ‵ (fat fullShare MTold′.mir l30 0 (vstruct (ofList ((parts-Told p-125 w-124 is-127) .pu0 ∷ (parts-Told p-125 w-124 is-127) .pu1 ∷ (parts-Told p-125 w-124 is-127) .pu2 ∷ (parts-Told p-125 w-124 is-127) .pu3 ∷ (parts-Told p-125 w-124 is-127) .pu4 ∷ (parts-Told p-125 w-124 is-127) .pu5 ∷ (parts-Told p-125 w-124 is-127) .pu6 ∷ (parts-Told p-125 w-124 is-127) .pu7 ∷ (parts-Told p-125 w-124 is-127) .pu8 ∷ (parts-Told p-125 w-124 is-127) .pu9 ∷ [])))) ∷ ‵ (fdies MTold′.mir l30) ∷ ‵ (froom MDelaysWords′.mir l29 0) ∷ ‵ (fdies MDelaysWords′.mir l29) ∷ ‵ (froom MHalvesWords′.mir l28 0) ∷ ‵ (fdies MHalvesWords′.mir l28) ∷ ‵ (froom MEmptied′.mir l27 0) ∷ ‵ (fdies MEmptied′.mir l27) ∷ ‵ (froom tyBool l26 0) ∷ ‵ (fdies tyBool l26) ∷ ‵ (froom MHeld′.mir l25 0) ∷ ‵ (fdies MHeld′.mir l25) ∷ ‵ (froom MMasterWords′.mir l24 0) ∷ ‵ (fdies MMasterWords′.mir l24) ∷ ‵ (froom (tyInt w64) l23 0) ∷ ‵ (fdies (tyInt w64) l23) ∷ ‵ (froom tyBool l22 0) ∷ ‵ (fdies tyBool l22) ∷ ‵ (froom MSeat′.mir l21 0) ∷ ‵ (fdies MSeat′.mir l21) ∷ ‵ (froom MLooked′.mir l20 0) ∷ ‵ (fdies MLooked′.mir l20) ∷ ‵ (froom MLooked′.mir l19 0) ∷ ‵ (fdies MLooked′.mir l19) ∷ ‵ (froom MLooked′.mir l18 0) ∷ ‵ (fdies MLooked′.mir l18) ∷ ‵ (froom MLooked′.mir l17 0) ∷ ‵ (fdies MLooked′.mir l17) ∷ ‵ (froom MLooked′.mir l16 0) ∷ ‵ (fdies MLooked′.mir l16) ∷ ‵ (froom (tyInt w32) l15 0) ∷ ‵ (fdies (tyInt w32) l15) ∷ ‵ (froom tyBool l14 0) ∷ ‵ (fdies tyBool l14) ∷ ‵ (froom MStateWords′.mir l13 0) ∷ ‵ (fdies MStateWords′.mir l13) ∷ ‵ (fat fullShare MSettingsWords′.mir l12 0 u-24) ∷ ‵ (fdies MSettingsWords′.mir l12) ∷ ‵ (froom MMessage′.mir l11 0) ∷ ‵ (fdies MMessage′.mir l11) ∷ ‵ (froom tyBool l10 0) ∷ ‵ (fdies tyBool l10) ∷ ‵ (froom MReceived′.mir l9 0) ∷ ‵ (fdies MReceived′.mir l9) ∷ ‵ (fat fullShare (tyRef (named 5) mut (pointee (R-AnswerWords .written))) l8 0 (vptr b8 o8)) ∷ ‵ (fdies (tyRef (named 5) mut (pointee (R-AnswerWords .written))) l8) ∷ ‵ (froom MStamp′.mir l7 0) ∷ ‵ (fdies MStamp′.mir l7) ∷ ‵ (froom (tyInt w64) l6 0) ∷ ‵ (fdies (tyInt w64) l6) ∷ ‵ (froom (sliceTy (tyRef (named 4) mut (tyInt w8))) l5 0) ∷ ‵ (fdies (sliceTy (tyRef (named 4) mut (tyInt w8))) l5) ∷ ‵ (fat fullShare (tyRef (named 3) mut (pointee (R-Watch .written))) l4 0 (vptr b4 o4)) ∷ ‵ (fdies (tyRef (named 3) mut (pointee (R-Watch .written))) l4) ∷ ‵ (froom (sliceTy (tyRef (named 2) mut (pointee (R-MasterWords .written)))) l3 0) ∷ ‵ (fdies (sliceTy (tyRef (named 2) mut (pointee (R-MasterWords .written)))) l3) ∷ ‵ (fat fullShare (tyRef (named 1) mut (pointee (R-Servo .written))) l2 0 (vptr b2 o2)) ∷ ‵ (fdies (tyRef (named 1) mut (pointee (R-Servo .written))) l2) ∷ ‵ (froom (tyRef (named 0) mut (pointee (R-UnitWords .written))) l1 0) ∷ ‵ (fdies (tyRef (named 0) mut (pointee (R-UnitWords .written))) l1) ∷ ‵ (froom tyUnit l0 0) ∷ ‵ (fdies tyUnit l0) ∷ []) (runs C Λ En mir′.t-26 (atRet En Post))
+      from-26 : (zs-8 : List ℕ) (len-9 : length zs-8 ≡ length h5) (p-4 : SReceived.Received) (w-3 : Val) (e-6 : (p-4 ≡ receivedBy (readOf h5)) × (zs-8 ≡ h5)) (is-7 : Is R-Received p-4 (w-3 ∷ [])) (left1 : Holds (not (p-4 .barred))) (good : Holds (not (not (eqb (length h3) 5)))) (u-24 : Val) (g-25 : Is R-SettingsWords (h1 .settings) (u-24 ∷ [])) (u-28 : Val) (g-29 : Is R-StateWords (h1 .state) (u-28 ∷ [])) (left2 : Holds (not (p-4 .announces))) (u-118 : Val) (g-119 : Is R-HalvesWords (h1 .halves) (u-118 ∷ [])) (u-122 : Val) (g-123 : Is R-DelaysWords (h1 .delays) (u-122 ∷ [])) (p-125 : STold.Told) (w-124 : Val) (e-126 : p-125 ≡ heardTold (h1 .settings) (h1 .state) (h1 .halves) (h1 .delays) (p-4 .message) h6 h7) (is-127 : Is R-Told p-125 (w-124 ∷ [])) (left5 : Holds (not (p-125 .barred))) (u-142 : Val) (g-143 : Is R-Servo h2 (u-142 ∷ [])) → Sq W (‵ (fobs γ2 (R-Servo .coded .code h2)) ∷ ‵ (fbor κ2 (Body (mem R-Servo) b2 o2 γ2)) ∷ ‵ (flft κ2 q2) ∷ ‵ (fobs γ1 (R-UnitWords .coded .code (with-UnitWords-3 (with-UnitWords-2 (with-UnitWords-1 h1 (p-125 .state)) (p-125 .halves)) (p-125 .delays)))) ∷ ‵ (fbor κ1 (Body (mem R-UnitWords) b1 o1 γ1)) ∷ ‵ (flft κ1 q1) ∷ ‵ (MutSlice (named 4) κ5 R-u8 .own (x5 zs-8) ((sliceVal (b5, o5) (length h5)) ∷ [])) ∷ ‵ (flft κ5 q5) ∷ ‵ (flft κ8 q8) ∷ ‵ (flft κ4 q4) ∷ ‵ (flft κ3 q3) ∷ ‵ (ftrue) ∷ ‵ (fobs γ8 (R-AnswerWords .coded .code h8)) ∷ ‵ (fbor κ8 (Body (mem R-AnswerWords) b8 o8 γ8)) ∷ ‵ (R-Stamp .own h7 (u7 ∷ [])) ∷ ‵ (R-u64 .own h6 (u6 ∷ [])) ∷ ‵ (fobs γ4 (R-Watch .coded .code h4)) ∷ ‵ (fbor κ4 (Body (mem R-Watch) b4 o4 γ4)) ∷ ‵ (fobs γ3 (codedHoleys R-MasterWords .code (heres R-MasterWords h3))) ∷ ‵ (fbor κ3 (Held R-MasterWords (length h3) b3 o3 γ3)) ∷ ‵ (at-slice R-MasterWords (x3 h3) ((sliceVal (b3, o3) (length h3)) ∷ [])) ∷ ‵ (froom (tyRef erased mut (pointee (R-u8x128 .written))) l65 0) ∷ ‵ (fdies (tyRef erased mut (pointee (R-u8x128 .written))) l65) ∷ ‵ (froom (tyRef erased mut (pointee (R-i32x128 .written))) l64 0) ∷ ‵ (fdies (tyRef erased mut (pointee (R-i32x128 .written))) l64) ∷ ‵ (froom (tyRef erased mut (pointee (R-i64x128 .written))) l63 0) ∷ ‵ (fdies (tyRef erased mut (pointee (R-i64x128 .written))) l63) ∷ ‵ (froom MHead′.mir l62 0) ∷ ‵ (fdies MHead′.mir l62) ∷ ‵ (froom MAnswerWords′.mir l61 0) ∷ ‵ (fdies MAnswerWords′.mir l61) ∷ ‵ (froom MAnswerWords′.mir l60 0) ∷ ‵ (fdies MAnswerWords′.mir l60) ∷ ‵ (froom (tyRef erased mut (pointee (R-u8x128 .written))) l59 0) ∷ ‵ (fdies (tyRef erased mut (pointee (R-u8x128 .written))) l59) ∷ ‵ (froom (tyRef erased mut (pointee (R-i32x128 .written))) l58 0) ∷ ‵ (fdies (tyRef erased mut (pointee (R-i32x128 .written))) l58) ∷ ‵ (froom (tyRef erased mut (pointee (R-i64x128 .written))) l57 0) ∷ ‵ (fdies (tyRef erased mut (pointee (R-i64x128 .written))) l57) ∷ ‵ (froom MHead′.mir l56 0) ∷ ‵ (fdies MHead′.mir l56) ∷ ‵ (froom tyPtr l55 0) ∷ ‵ (fdies tyPtr l55) ∷ ‵ (froom tyPtr l54 0) ∷ ‵ (fdies tyPtr l54) ∷ ‵ (froom (tyInt w64) l53 0) ∷ ‵ (fdies (tyInt w64) l53) ∷ ‵ (froom MAnswerWords′.mir l52 0) ∷ ‵ (fdies MAnswerWords′.mir l52) ∷ ‵ (froom tyBool l51 0) ∷ ‵ (fdies tyBool l51) ∷ ‵ (froom tyPtr l50 0) ∷ ‵ (fdies tyPtr l50) ∷ ‵ (froom tyPtr l49 0) ∷ ‵ (fdies tyPtr l49) ∷ ‵ (froom tyPtr l48 0) ∷ ‵ (fdies tyPtr l48) ∷ ‵ (froom tyPtr l47 0) ∷ ‵ (fdies tyPtr l47) ∷ ‵ (froom MMasterWords′.mir l46 0) ∷ ‵ (fdies MMasterWords′.mir l46) ∷ ‵ (froom tyPtr l45 0) ∷ ‵ (fdies tyPtr l45) ∷ ‵ (froom MAnswerWords′.mir l44 0) ∷ ‵ (fdies MAnswerWords′.mir l44) ∷ ‵ (froom (tyInt w64) l43 0) ∷ ‵ (fdies (tyInt w64) l43) ∷ ‵ (froom MAnswerWords′.mir l42 0) ∷ ‵ (fdies MAnswerWords′.mir l42) ∷ ‵ (froom tyBool l41 0) ∷ ‵ (fdies tyBool l41) ∷ ‵ (froom (sliceTy (tyRef erased mut (tyInt w8))) l40 0) ∷ ‵ (fdies (sliceTy (tyRef erased mut (tyInt w8))) l40) ∷ ‵ (froom (tyRef erased mut (tyInt w8)) l39 0) ∷ ‵ (fdies (tyRef erased mut (tyInt w8)) l39) ∷ ‵ (froom (tyInt w16) l38 0) ∷ ‵ (fdies (tyInt w16) l38) ∷ ‵ (froom (tyInt w8) l37 0) ∷ ‵ (fdies (tyInt w8) l37) ∷ ‵ (froom MServo′.mir l36 0) ∷ ‵ (fdies MServo′.mir l36) ∷ ‵ (froom tyBool l35 0) ∷ ‵ (fdies tyBool l35) ∷ ‵ (froom tyBool l34 0) ∷ ‵ (fdies tyBool l34) ∷ ‵ (froom MAccepted′.mir l33 0) ∷ ‵ (fdies MAccepted′.mir l33) ∷ ‵ (fat fullShare MServo′.mir l32 0 u-142) ∷ ‵ (fdies MServo′.mir l32) ∷ ‵ (froom tyBool l31 0) ∷ ‵ (fdies tyBool l31) ∷ ‵ (fat fullShare MTold′.mir l30 0 (vstruct (ofList ((parts-Told p-125 w-124 is-127) .pu0 ∷ (parts-Told p-125 w-124 is-127) .pu1 ∷ (parts-Told p-125 w-124 is-127) .pu2 ∷ (parts-Told p-125 w-124 is-127) .pu3 ∷ (parts-Told p-125 w-124 is-127) .pu4 ∷ (parts-Told p-125 w-124 is-127) .pu5 ∷ (parts-Told p-125 w-124 is-127) .pu6 ∷ (parts-Told p-125 w-124 is-127) .pu7 ∷ (parts-Told p-125 w-124 is-127) .pu8 ∷ (parts-Told p-125 w-124 is-127) .pu9 ∷ [])))) ∷ ‵ (fdies MTold′.mir l30) ∷ ‵ (froom MDelaysWords′.mir l29 0) ∷ ‵ (fdies MDelaysWords′.mir l29) ∷ ‵ (froom MHalvesWords′.mir l28 0) ∷ ‵ (fdies MHalvesWords′.mir l28) ∷ ‵ (froom MEmptied′.mir l27 0) ∷ ‵ (fdies MEmptied′.mir l27) ∷ ‵ (froom tyBool l26 0) ∷ ‵ (fdies tyBool l26) ∷ ‵ (froom MHeld′.mir l25 0) ∷ ‵ (fdies MHeld′.mir l25) ∷ ‵ (froom MMasterWords′.mir l24 0) ∷ ‵ (fdies MMasterWords′.mir l24) ∷ ‵ (froom (tyInt w64) l23 0) ∷ ‵ (fdies (tyInt w64) l23) ∷ ‵ (froom tyBool l22 0) ∷ ‵ (fdies tyBool l22) ∷ ‵ (froom MSeat′.mir l21 0) ∷ ‵ (fdies MSeat′.mir l21) ∷ ‵ (froom MLooked′.mir l20 0) ∷ ‵ (fdies MLooked′.mir l20) ∷ ‵ (froom MLooked′.mir l19 0) ∷ ‵ (fdies MLooked′.mir l19) ∷ ‵ (froom MLooked′.mir l18 0) ∷ ‵ (fdies MLooked′.mir l18) ∷ ‵ (froom MLooked′.mir l17 0) ∷ ‵ (fdies MLooked′.mir l17) ∷ ‵ (froom MLooked′.mir l16 0) ∷ ‵ (fdies MLooked′.mir l16) ∷ ‵ (froom (tyInt w32) l15 0) ∷ ‵ (fdies (tyInt w32) l15) ∷ ‵ (froom tyBool l14 0) ∷ ‵ (fdies tyBool l14) ∷ ‵ (froom MStateWords′.mir l13 0) ∷ ‵ (fdies MStateWords′.mir l13) ∷ ‵ (fat fullShare MSettingsWords′.mir l12 0 u-24) ∷ ‵ (fdies MSettingsWords′.mir l12) ∷ ‵ (froom MMessage′.mir l11 0) ∷ ‵ (fdies MMessage′.mir l11) ∷ ‵ (froom tyBool l10 0) ∷ ‵ (fdies tyBool l10) ∷ ‵ (froom MReceived′.mir l9 0) ∷ ‵ (fdies MReceived′.mir l9) ∷ ‵ (fat fullShare (tyRef (named 5) mut (pointee (R-AnswerWords .written))) l8 0 (vptr b8 o8)) ∷ ‵ (fdies (tyRef (named 5) mut (pointee (R-AnswerWords .written))) l8) ∷ ‵ (froom MStamp′.mir l7 0) ∷ ‵ (fdies MStamp′.mir l7) ∷ ‵ (froom (tyInt w64) l6 0) ∷ ‵ (fdies (tyInt w64) l6) ∷ ‵ (froom (sliceTy (tyRef (named 4) mut (tyInt w8))) l5 0) ∷ ‵ (fdies (sliceTy (tyRef (named 4) mut (tyInt w8))) l5) ∷ ‵ (fat fullShare (tyRef (named 3) mut (pointee (R-Watch .written))) l4 0 (vptr b4 o4)) ∷ ‵ (fdies (tyRef (named 3) mut (pointee (R-Watch .written))) l4) ∷ ‵ (froom (sliceTy (tyRef (named 2) mut (pointee (R-MasterWords .written)))) l3 0) ∷ ‵ (fdies (sliceTy (tyRef (named 2) mut (pointee (R-MasterWords .written)))) l3) ∷ ‵ (fat fullShare (tyRef (named 1) mut (pointee (R-Servo .written))) l2 0 (vptr b2 o2)) ∷ ‵ (fdies (tyRef (named 1) mut (pointee (R-Servo .written))) l2) ∷ ‵ (froom (tyRef (named 0) mut (pointee (R-UnitWords .written))) l1 0) ∷ ‵ (fdies (tyRef (named 0) mut (pointee (R-UnitWords .written))) l1) ∷ ‵ (froom tyUnit l0 0) ∷ ‵ (fdies tyUnit l0) ∷ []) (runs C Λ En mir′.t-26 (atRet En Post))
       from-26 zs-8 len-9 p-4 w-3 e-6 is-7 left1 good u-24 g-25 u-28 g-29 left2 u-118 g-119 u-122 g-123 p-125 w-124 e-126 is-127 left5 u-142 g-143 =
-          rewrite ! 83 (λ (u : Val). ‵ (fat fullShare MTold′.mir l30 0 u)) (sym (parts-Told p-125 w-124 is-127 .whole-is)) refl $
-          use0 W (raw (C-steer 𝓤 H A at-mem run .pre (to-steer h2 u-142 (h1 .settings) u-24 p-125 w-124))) (goes-steer h2 u-142 g-143 (h1 .settings) u-24 g-25 p-125 w-124 is-127) $
-          calls-at ! fm (C-steer 𝓤 H A at-mem run) known-steer (to-steer h2 u-142 (h1 .settings) u-24 p-125 w-124) (and-then ! (load ! (from ! (stop !)) (look ! 80 refl)) (and-then ! (load ! (from ! (stop !)) (look ! 120 refl)) (and-then ! (load ! (from ! (stop !)) (look ! 84 refl)) (no-more !)))) (λ w-144.
-          use1 W (later (some (λ (p-145 : SServo.Servo). (‵ ftrue ⊛ ‵ (R-Servo .own p-145 (w-144 ∷ []))) ⊛ raw (ensured 𝓤 H A f-steer.ended (f-steer.clauses 𝓤 H A at-mem run) tt (h2, ((h1 .settings), (p-125, tt))) tt p-145)))) (id⊢ 𝓤 _) $ await ! tt $
+          assigns ! (of-opd ! (load ! (from ! (fld ! {τ = MAccepted′.mir} {d = off-Told-3} field-Told-3 (stop !))) (look-in ! 91 (sub ! {ν = name-of MTold′.mir} {τs = tys-of MTold′.mir} 3 {τ = MAccepted′.mir} {d = off-Told-3} field-Told-3 (whole !))))) (from ! (stop !)) (init ! 85 refl (lawful-Accepted 𝓤 H A W .typed (p-125 .found) _ ((parts-Told p-125 w-124 is-127) .pg3) .0)) $
+          assigns ! (of-opd ! (load ! (from ! (fld ! {τ = tyBool} {d = off-Told-9} field-Told-9 (stop !))) (look-in ! 91 (sub ! {ν = name-of MTold′.mir} {τs = tys-of MTold′.mir} 9 {τ = tyBool} {d = off-Told-9} field-Told-9 (whole !))))) (from ! (stop !)) (init ! 83 refl (lawful-bool 𝓤 H A W .typed (p-125 .steers) _ ((parts-Told p-125 w-124 is-127) .pg9) .0)) $
+          assigns ! (of-opd ! (load ! (from ! (fld ! {τ = tyBool} {d = off-Told-8} field-Told-8 (stop !))) (look-in ! 91 (sub ! {ν = name-of MTold′.mir} {τs = tys-of MTold′.mir} 8 {τ = tyBool} {d = off-Told-8} field-Told-8 (whole !))))) (from ! (stop !)) (init ! 81 refl (lawful-bool 𝓤 H A W .typed (p-125 .wipes) _ ((parts-Told p-125 w-124 is-127) .pg8) .0)) $
+          use0 W (raw (C-steer 𝓤 H A at-mem run .pre (to-steer h2 u-142 (h1 .settings) u-24 (p-125 .found) ((parts-Told p-125 w-124 is-127) .pu3) (p-125 .steers) ((parts-Told p-125 w-124 is-127) .pu9) (p-125 .wipes) ((parts-Told p-125 w-124 is-127) .pu8)))) (goes-steer h2 u-142 g-143 (h1 .settings) u-24 g-25 (p-125 .found) ((parts-Told p-125 w-124 is-127) .pu3) ((parts-Told p-125 w-124 is-127) .pg3) (p-125 .steers) ((parts-Told p-125 w-124 is-127) .pu9) ((parts-Told p-125 w-124 is-127) .pg9) (p-125 .wipes) ((parts-Told p-125 w-124 is-127) .pu8) ((parts-Told p-125 w-124 is-127) .pg8)) $
+          calls-at ! fm (C-steer 𝓤 H A at-mem run) known-steer (to-steer h2 u-142 (h1 .settings) u-24 (p-125 .found) ((parts-Told p-125 w-124 is-127) .pu3) (p-125 .steers) ((parts-Told p-125 w-124 is-127) .pu9) (p-125 .wipes) ((parts-Told p-125 w-124 is-127) .pu8)) (and-then ! (load ! (from ! (stop !)) (look ! 88 refl)) (and-then ! (load ! (from ! (stop !)) (look ! 128 refl)) (and-then ! (load ! (from ! (stop !)) (look ! 86 refl)) (and-then ! (load ! (from ! (stop !)) (look ! 84 refl)) (and-then ! (load ! (from ! (stop !)) (look ! 82 refl)) (no-more !)))))) (λ w-144.
+          use1 W (later (some (λ (p-145 : SServo.Servo). (‵ ftrue ⊛ ‵ (R-Servo .own p-145 (w-144 ∷ []))) ⊛ raw (ensured 𝓤 H A f-steer.ended (f-steer.clauses 𝓤 H A at-mem run) tt (h2, ((h1 .settings), ((p-125 .found), ((p-125 .steers), ((p-125 .wipes), tt))))) tt p-145)))) (id⊢ 𝓤 _) $ await ! tt $
           pick ! (λ p-145.
           split ! $
           move ! (1 ∷ []) $
-          use1 W (raw (fact 𝓤 (p-145 ≡ servoAfter (h1 .settings) h2 (p-125 .found) (p-125 .steers) (p-125 .wipes)))) (ensures-steer 𝓤 H A at-mem run h2 (h1 .settings) p-125 p-145) $
+          use1 W (raw (fact 𝓤 (p-145 ≡ servoAfter (h1 .settings) h2 (p-125 .found) (p-125 .steers) (p-125 .wipes)))) (ensures-steer 𝓤 H A at-mem run h2 (h1 .settings) (p-125 .found) (p-125 .steers) (p-125 .wipes) p-145) $
           heard ! (p-145 ≡ servoAfter (h1 .settings) h2 (p-125 .found) (p-125 .steers) (p-125 .wipes)) (λ e-146.
           split ! $
           drop ! $
           peeks ! R-Servo (Is R-Servo) (shows 𝓤 H A R-Servo) p-145 (w-144 ∷ []) (λ is-147.
           drop ! $
-          land ! (from ! (stop !)) (init ! 77 refl (lawful-Servo 𝓤 H A W .typed p-145 _ is-147 .0)) $
+          land ! (from ! (stop !)) (init ! 79 refl (lawful-Servo 𝓤 H A W .typed p-145 _ is-147 .0)) $
           opens ! tt R-Servo {h = h2} b2 o2 (λ vs-148.
           move ! (1 ∷ []) $
           peeks ! R-Servo (Is R-Servo) (shows 𝓤 H A R-Servo) h2 vs-148 (λ g-149.
           rewrite ! 0 (λ (us : List Val). ‵ (R-Servo .own h2 us)) (lone-Servo h2 vs-148 g-149) refl $
           rewrite ! 1 (λ (us : List Val). ‵ (cellAt fullShare (R-Servo .mir) us b2 o2)) (lone-Servo h2 vs-148 g-149) refl $
-          assigns ! (of-opd ! (load ! (from ! (stop !)) (look ! 79 refl))) (from ! (hop ! (look ! 141 refl) (stop !))) (store-raw ! 1 refl (lawful-Servo 𝓤 H A W .typed p-145 _ is-147 .0)) $
+          assigns ! (of-opd ! (load ! (from ! (stop !)) (look ! 81 refl))) (from ! (hop ! (look ! 149 refl) (stop !))) (store-raw ! 1 refl (lawful-Servo 𝓤 H A W .typed p-145 _ is-147 .0)) $
           drop ! $
           owned ! R-Servo (Is R-Servo) (makes-Servo 𝓤 H A W) p-145 _ is-147 $
           move ! (1 ∷ 0 ∷ 2 ∷ 3 ∷ 4 ∷ []) $
           closes ! tt R-Servo p-145 (w-144 ∷ []) b2 o2 $
-          forget ! 139 refl $ forget ! 119 refl $ forget ! 79 refl $
-          from-28 zs-8 len-9 p-4 w-3 e-6 is-7 left1 good u-24 g-25 u-28 g-29 left2 u-118 g-119 u-122 g-123 p-125 w-124 e-126 is-127 left5 u-142 g-143 p-145 w-144 e-146 is-147))))))
+          forget ! 147 refl $ forget ! 127 refl $ forget ! 87 refl $
+          from-31 zs-8 len-9 p-4 w-3 e-6 is-7 left1 good u-24 g-25 u-28 g-29 left2 u-118 g-119 u-122 g-123 p-125 w-124 e-126 is-127 left5 u-142 g-143 p-145 w-144 e-146 is-147))))))
 
-      from-25 : (zs-8 : List ℕ) (len-9 : length zs-8 ≡ length h5) (p-4 : SReceived.Received) (w-3 : Val) (e-6 : (p-4 ≡ receivedBy (readOf h5)) × (zs-8 ≡ h5)) (is-7 : Is R-Received p-4 (w-3 ∷ [])) (left1 : Holds (not (p-4 .barred))) (good : Holds (not (not (eqb (length h3) 5)))) (u-24 : Val) (g-25 : Is R-SettingsWords (h1 .settings) (u-24 ∷ [])) (u-28 : Val) (g-29 : Is R-StateWords (h1 .state) (u-28 ∷ [])) (left2 : Holds (not (p-4 .announces))) (u-118 : Val) (g-119 : Is R-HalvesWords (h1 .halves) (u-118 ∷ [])) (u-122 : Val) (g-123 : Is R-DelaysWords (h1 .delays) (u-122 ∷ [])) (p-125 : STold.Told) (w-124 : Val) (e-126 : p-125 ≡ heardTold (h1 .settings) (h1 .state) (h1 .halves) (h1 .delays) (p-4 .message) h6 h7) (is-127 : Is R-Told p-125 (w-124 ∷ [])) (left5 : Holds (not (p-125 .barred))) → Sq W (‵ (fobs γ1 (R-UnitWords .coded .code (with-UnitWords-3 (with-UnitWords-2 (with-UnitWords-1 h1 (p-125 .state)) (p-125 .halves)) (p-125 .delays)))) ∷ ‵ (fbor κ1 (Body (mem R-UnitWords) b1 o1 γ1)) ∷ ‵ (flft κ1 q1) ∷ ‵ (MutSlice (named 4) κ5 R-u8 .own (x5 zs-8) ((sliceVal (b5, o5) (length h5)) ∷ [])) ∷ ‵ (flft κ5 q5) ∷ ‵ (flft κ8 q8) ∷ ‵ (flft κ4 q4) ∷ ‵ (flft κ3 q3) ∷ ‵ (flft κ2 q2) ∷ ‵ (ftrue) ∷ ‵ (fobs γ8 (R-AnswerWords .coded .code h8)) ∷ ‵ (fbor κ8 (Body (mem R-AnswerWords) b8 o8 γ8)) ∷ ‵ (R-Stamp .own h7 (u7 ∷ [])) ∷ ‵ (R-u64 .own h6 (u6 ∷ [])) ∷ ‵ (fobs γ4 (R-Watch .coded .code h4)) ∷ ‵ (fbor κ4 (Body (mem R-Watch) b4 o4 γ4)) ∷ ‵ (fobs γ3 (codedHoleys R-MasterWords .code (heres R-MasterWords h3))) ∷ ‵ (fbor κ3 (Held R-MasterWords (length h3) b3 o3 γ3)) ∷ ‵ (at-slice R-MasterWords (x3 h3) ((sliceVal (b3, o3) (length h3)) ∷ [])) ∷ ‵ (fobs γ2 (R-Servo .coded .code h2)) ∷ ‵ (fbor κ2 (Body (mem R-Servo) b2 o2 γ2)) ∷ ‵ (froom (tyRef erased mut (pointee (R-u8x128 .written))) l61 0) ∷ ‵ (fdies (tyRef erased mut (pointee (R-u8x128 .written))) l61) ∷ ‵ (froom (tyRef erased mut (pointee (R-i32x128 .written))) l60 0) ∷ ‵ (fdies (tyRef erased mut (pointee (R-i32x128 .written))) l60) ∷ ‵ (froom (tyRef erased mut (pointee (R-i64x128 .written))) l59 0) ∷ ‵ (fdies (tyRef erased mut (pointee (R-i64x128 .written))) l59) ∷ ‵ (froom MHead′.mir l58 0) ∷ ‵ (fdies MHead′.mir l58) ∷ ‵ (froom MAnswerWords′.mir l57 0) ∷ ‵ (fdies MAnswerWords′.mir l57) ∷ ‵ (froom MAnswerWords′.mir l56 0) ∷ ‵ (fdies MAnswerWords′.mir l56) ∷ ‵ (froom (tyRef erased mut (pointee (R-u8x128 .written))) l55 0) ∷ ‵ (fdies (tyRef erased mut (pointee (R-u8x128 .written))) l55) ∷ ‵ (froom (tyRef erased mut (pointee (R-i32x128 .written))) l54 0) ∷ ‵ (fdies (tyRef erased mut (pointee (R-i32x128 .written))) l54) ∷ ‵ (froom (tyRef erased mut (pointee (R-i64x128 .written))) l53 0) ∷ ‵ (fdies (tyRef erased mut (pointee (R-i64x128 .written))) l53) ∷ ‵ (froom MHead′.mir l52 0) ∷ ‵ (fdies MHead′.mir l52) ∷ ‵ (froom tyPtr l51 0) ∷ ‵ (fdies tyPtr l51) ∷ ‵ (froom tyPtr l50 0) ∷ ‵ (fdies tyPtr l50) ∷ ‵ (froom (tyInt w64) l49 0) ∷ ‵ (fdies (tyInt w64) l49) ∷ ‵ (froom MAnswerWords′.mir l48 0) ∷ ‵ (fdies MAnswerWords′.mir l48) ∷ ‵ (froom tyBool l47 0) ∷ ‵ (fdies tyBool l47) ∷ ‵ (froom tyPtr l46 0) ∷ ‵ (fdies tyPtr l46) ∷ ‵ (froom tyPtr l45 0) ∷ ‵ (fdies tyPtr l45) ∷ ‵ (froom tyPtr l44 0) ∷ ‵ (fdies tyPtr l44) ∷ ‵ (froom tyPtr l43 0) ∷ ‵ (fdies tyPtr l43) ∷ ‵ (froom MMasterWords′.mir l42 0) ∷ ‵ (fdies MMasterWords′.mir l42) ∷ ‵ (froom tyPtr l41 0) ∷ ‵ (fdies tyPtr l41) ∷ ‵ (froom MAnswerWords′.mir l40 0) ∷ ‵ (fdies MAnswerWords′.mir l40) ∷ ‵ (froom (tyInt w64) l39 0) ∷ ‵ (fdies (tyInt w64) l39) ∷ ‵ (froom MAnswerWords′.mir l38 0) ∷ ‵ (fdies MAnswerWords′.mir l38) ∷ ‵ (froom tyBool l37 0) ∷ ‵ (fdies tyBool l37) ∷ ‵ (froom (sliceTy (tyRef erased mut (tyInt w8))) l36 0) ∷ ‵ (fdies (sliceTy (tyRef erased mut (tyInt w8))) l36) ∷ ‵ (froom (tyRef erased mut (tyInt w8)) l35 0) ∷ ‵ (fdies (tyRef erased mut (tyInt w8)) l35) ∷ ‵ (froom tyBool l34 0) ∷ ‵ (fdies tyBool l34) ∷ ‵ (froom MServo′.mir l33 0) ∷ ‵ (fdies MServo′.mir l33) ∷ ‵ (froom MServo′.mir l32 0) ∷ ‵ (fdies MServo′.mir l32) ∷ ‵ (froom tyBool l31 0) ∷ ‵ (fdies tyBool l31) ∷ ‵ (fat fullShare MTold′.mir l30 0 (vstruct (ofList ((parts-Told p-125 w-124 is-127) .pu0 ∷ (parts-Told p-125 w-124 is-127) .pu1 ∷ (parts-Told p-125 w-124 is-127) .pu2 ∷ (parts-Told p-125 w-124 is-127) .pu3 ∷ (parts-Told p-125 w-124 is-127) .pu4 ∷ (parts-Told p-125 w-124 is-127) .pu5 ∷ (parts-Told p-125 w-124 is-127) .pu6 ∷ (parts-Told p-125 w-124 is-127) .pu7 ∷ (parts-Told p-125 w-124 is-127) .pu8 ∷ (parts-Told p-125 w-124 is-127) .pu9 ∷ [])))) ∷ ‵ (fdies MTold′.mir l30) ∷ ‵ (froom MDelaysWords′.mir l29 0) ∷ ‵ (fdies MDelaysWords′.mir l29) ∷ ‵ (froom MHalvesWords′.mir l28 0) ∷ ‵ (fdies MHalvesWords′.mir l28) ∷ ‵ (froom MEmptied′.mir l27 0) ∷ ‵ (fdies MEmptied′.mir l27) ∷ ‵ (froom tyBool l26 0) ∷ ‵ (fdies tyBool l26) ∷ ‵ (froom MHeld′.mir l25 0) ∷ ‵ (fdies MHeld′.mir l25) ∷ ‵ (froom MMasterWords′.mir l24 0) ∷ ‵ (fdies MMasterWords′.mir l24) ∷ ‵ (froom (tyInt w64) l23 0) ∷ ‵ (fdies (tyInt w64) l23) ∷ ‵ (froom tyBool l22 0) ∷ ‵ (fdies tyBool l22) ∷ ‵ (froom MSeat′.mir l21 0) ∷ ‵ (fdies MSeat′.mir l21) ∷ ‵ (froom MLooked′.mir l20 0) ∷ ‵ (fdies MLooked′.mir l20) ∷ ‵ (froom MLooked′.mir l19 0) ∷ ‵ (fdies MLooked′.mir l19) ∷ ‵ (froom MLooked′.mir l18 0) ∷ ‵ (fdies MLooked′.mir l18) ∷ ‵ (froom MLooked′.mir l17 0) ∷ ‵ (fdies MLooked′.mir l17) ∷ ‵ (froom MLooked′.mir l16 0) ∷ ‵ (fdies MLooked′.mir l16) ∷ ‵ (froom (tyInt w32) l15 0) ∷ ‵ (fdies (tyInt w32) l15) ∷ ‵ (froom tyBool l14 0) ∷ ‵ (fdies tyBool l14) ∷ ‵ (froom MStateWords′.mir l13 0) ∷ ‵ (fdies MStateWords′.mir l13) ∷ ‵ (fat fullShare MSettingsWords′.mir l12 0 u-24) ∷ ‵ (fdies MSettingsWords′.mir l12) ∷ ‵ (froom MMessage′.mir l11 0) ∷ ‵ (fdies MMessage′.mir l11) ∷ ‵ (froom tyBool l10 0) ∷ ‵ (fdies tyBool l10) ∷ ‵ (froom MReceived′.mir l9 0) ∷ ‵ (fdies MReceived′.mir l9) ∷ ‵ (fat fullShare (tyRef (named 5) mut (pointee (R-AnswerWords .written))) l8 0 (vptr b8 o8)) ∷ ‵ (fdies (tyRef (named 5) mut (pointee (R-AnswerWords .written))) l8) ∷ ‵ (froom MStamp′.mir l7 0) ∷ ‵ (fdies MStamp′.mir l7) ∷ ‵ (froom (tyInt w64) l6 0) ∷ ‵ (fdies (tyInt w64) l6) ∷ ‵ (froom (sliceTy (tyRef (named 4) mut (tyInt w8))) l5 0) ∷ ‵ (fdies (sliceTy (tyRef (named 4) mut (tyInt w8))) l5) ∷ ‵ (fat fullShare (tyRef (named 3) mut (pointee (R-Watch .written))) l4 0 (vptr b4 o4)) ∷ ‵ (fdies (tyRef (named 3) mut (pointee (R-Watch .written))) l4) ∷ ‵ (froom (sliceTy (tyRef (named 2) mut (pointee (R-MasterWords .written)))) l3 0) ∷ ‵ (fdies (sliceTy (tyRef (named 2) mut (pointee (R-MasterWords .written)))) l3) ∷ ‵ (fat fullShare (tyRef (named 1) mut (pointee (R-Servo .written))) l2 0 (vptr b2 o2)) ∷ ‵ (fdies (tyRef (named 1) mut (pointee (R-Servo .written))) l2) ∷ ‵ (froom (tyRef (named 0) mut (pointee (R-UnitWords .written))) l1 0) ∷ ‵ (fdies (tyRef (named 0) mut (pointee (R-UnitWords .written))) l1) ∷ ‵ (froom tyUnit l0 0) ∷ ‵ (fdies tyUnit l0) ∷ []) (runs C Λ En mir′.t-25 (atRet En Post))
+      from-25 : (zs-8 : List ℕ) (len-9 : length zs-8 ≡ length h5) (p-4 : SReceived.Received) (w-3 : Val) (e-6 : (p-4 ≡ receivedBy (readOf h5)) × (zs-8 ≡ h5)) (is-7 : Is R-Received p-4 (w-3 ∷ [])) (left1 : Holds (not (p-4 .barred))) (good : Holds (not (not (eqb (length h3) 5)))) (u-24 : Val) (g-25 : Is R-SettingsWords (h1 .settings) (u-24 ∷ [])) (u-28 : Val) (g-29 : Is R-StateWords (h1 .state) (u-28 ∷ [])) (left2 : Holds (not (p-4 .announces))) (u-118 : Val) (g-119 : Is R-HalvesWords (h1 .halves) (u-118 ∷ [])) (u-122 : Val) (g-123 : Is R-DelaysWords (h1 .delays) (u-122 ∷ [])) (p-125 : STold.Told) (w-124 : Val) (e-126 : p-125 ≡ heardTold (h1 .settings) (h1 .state) (h1 .halves) (h1 .delays) (p-4 .message) h6 h7) (is-127 : Is R-Told p-125 (w-124 ∷ [])) (left5 : Holds (not (p-125 .barred))) → Sq W (‵ (fobs γ1 (R-UnitWords .coded .code (with-UnitWords-3 (with-UnitWords-2 (with-UnitWords-1 h1 (p-125 .state)) (p-125 .halves)) (p-125 .delays)))) ∷ ‵ (fbor κ1 (Body (mem R-UnitWords) b1 o1 γ1)) ∷ ‵ (flft κ1 q1) ∷ ‵ (MutSlice (named 4) κ5 R-u8 .own (x5 zs-8) ((sliceVal (b5, o5) (length h5)) ∷ [])) ∷ ‵ (flft κ5 q5) ∷ ‵ (flft κ8 q8) ∷ ‵ (flft κ4 q4) ∷ ‵ (flft κ3 q3) ∷ ‵ (flft κ2 q2) ∷ ‵ (ftrue) ∷ ‵ (fobs γ8 (R-AnswerWords .coded .code h8)) ∷ ‵ (fbor κ8 (Body (mem R-AnswerWords) b8 o8 γ8)) ∷ ‵ (R-Stamp .own h7 (u7 ∷ [])) ∷ ‵ (R-u64 .own h6 (u6 ∷ [])) ∷ ‵ (fobs γ4 (R-Watch .coded .code h4)) ∷ ‵ (fbor κ4 (Body (mem R-Watch) b4 o4 γ4)) ∷ ‵ (fobs γ3 (codedHoleys R-MasterWords .code (heres R-MasterWords h3))) ∷ ‵ (fbor κ3 (Held R-MasterWords (length h3) b3 o3 γ3)) ∷ ‵ (at-slice R-MasterWords (x3 h3) ((sliceVal (b3, o3) (length h3)) ∷ [])) ∷ ‵ (fobs γ2 (R-Servo .coded .code h2)) ∷ ‵ (fbor κ2 (Body (mem R-Servo) b2 o2 γ2)) ∷ ‵ (froom (tyRef erased mut (pointee (R-u8x128 .written))) l65 0) ∷ ‵ (fdies (tyRef erased mut (pointee (R-u8x128 .written))) l65) ∷ ‵ (froom (tyRef erased mut (pointee (R-i32x128 .written))) l64 0) ∷ ‵ (fdies (tyRef erased mut (pointee (R-i32x128 .written))) l64) ∷ ‵ (froom (tyRef erased mut (pointee (R-i64x128 .written))) l63 0) ∷ ‵ (fdies (tyRef erased mut (pointee (R-i64x128 .written))) l63) ∷ ‵ (froom MHead′.mir l62 0) ∷ ‵ (fdies MHead′.mir l62) ∷ ‵ (froom MAnswerWords′.mir l61 0) ∷ ‵ (fdies MAnswerWords′.mir l61) ∷ ‵ (froom MAnswerWords′.mir l60 0) ∷ ‵ (fdies MAnswerWords′.mir l60) ∷ ‵ (froom (tyRef erased mut (pointee (R-u8x128 .written))) l59 0) ∷ ‵ (fdies (tyRef erased mut (pointee (R-u8x128 .written))) l59) ∷ ‵ (froom (tyRef erased mut (pointee (R-i32x128 .written))) l58 0) ∷ ‵ (fdies (tyRef erased mut (pointee (R-i32x128 .written))) l58) ∷ ‵ (froom (tyRef erased mut (pointee (R-i64x128 .written))) l57 0) ∷ ‵ (fdies (tyRef erased mut (pointee (R-i64x128 .written))) l57) ∷ ‵ (froom MHead′.mir l56 0) ∷ ‵ (fdies MHead′.mir l56) ∷ ‵ (froom tyPtr l55 0) ∷ ‵ (fdies tyPtr l55) ∷ ‵ (froom tyPtr l54 0) ∷ ‵ (fdies tyPtr l54) ∷ ‵ (froom (tyInt w64) l53 0) ∷ ‵ (fdies (tyInt w64) l53) ∷ ‵ (froom MAnswerWords′.mir l52 0) ∷ ‵ (fdies MAnswerWords′.mir l52) ∷ ‵ (froom tyBool l51 0) ∷ ‵ (fdies tyBool l51) ∷ ‵ (froom tyPtr l50 0) ∷ ‵ (fdies tyPtr l50) ∷ ‵ (froom tyPtr l49 0) ∷ ‵ (fdies tyPtr l49) ∷ ‵ (froom tyPtr l48 0) ∷ ‵ (fdies tyPtr l48) ∷ ‵ (froom tyPtr l47 0) ∷ ‵ (fdies tyPtr l47) ∷ ‵ (froom MMasterWords′.mir l46 0) ∷ ‵ (fdies MMasterWords′.mir l46) ∷ ‵ (froom tyPtr l45 0) ∷ ‵ (fdies tyPtr l45) ∷ ‵ (froom MAnswerWords′.mir l44 0) ∷ ‵ (fdies MAnswerWords′.mir l44) ∷ ‵ (froom (tyInt w64) l43 0) ∷ ‵ (fdies (tyInt w64) l43) ∷ ‵ (froom MAnswerWords′.mir l42 0) ∷ ‵ (fdies MAnswerWords′.mir l42) ∷ ‵ (froom tyBool l41 0) ∷ ‵ (fdies tyBool l41) ∷ ‵ (froom (sliceTy (tyRef erased mut (tyInt w8))) l40 0) ∷ ‵ (fdies (sliceTy (tyRef erased mut (tyInt w8))) l40) ∷ ‵ (froom (tyRef erased mut (tyInt w8)) l39 0) ∷ ‵ (fdies (tyRef erased mut (tyInt w8)) l39) ∷ ‵ (froom (tyInt w16) l38 0) ∷ ‵ (fdies (tyInt w16) l38) ∷ ‵ (froom (tyInt w8) l37 0) ∷ ‵ (fdies (tyInt w8) l37) ∷ ‵ (froom MServo′.mir l36 0) ∷ ‵ (fdies MServo′.mir l36) ∷ ‵ (froom tyBool l35 0) ∷ ‵ (fdies tyBool l35) ∷ ‵ (froom tyBool l34 0) ∷ ‵ (fdies tyBool l34) ∷ ‵ (froom MAccepted′.mir l33 0) ∷ ‵ (fdies MAccepted′.mir l33) ∷ ‵ (froom MServo′.mir l32 0) ∷ ‵ (fdies MServo′.mir l32) ∷ ‵ (froom tyBool l31 0) ∷ ‵ (fdies tyBool l31) ∷ ‵ (fat fullShare MTold′.mir l30 0 (vstruct (ofList ((parts-Told p-125 w-124 is-127) .pu0 ∷ (parts-Told p-125 w-124 is-127) .pu1 ∷ (parts-Told p-125 w-124 is-127) .pu2 ∷ (parts-Told p-125 w-124 is-127) .pu3 ∷ (parts-Told p-125 w-124 is-127) .pu4 ∷ (parts-Told p-125 w-124 is-127) .pu5 ∷ (parts-Told p-125 w-124 is-127) .pu6 ∷ (parts-Told p-125 w-124 is-127) .pu7 ∷ (parts-Told p-125 w-124 is-127) .pu8 ∷ (parts-Told p-125 w-124 is-127) .pu9 ∷ [])))) ∷ ‵ (fdies MTold′.mir l30) ∷ ‵ (froom MDelaysWords′.mir l29 0) ∷ ‵ (fdies MDelaysWords′.mir l29) ∷ ‵ (froom MHalvesWords′.mir l28 0) ∷ ‵ (fdies MHalvesWords′.mir l28) ∷ ‵ (froom MEmptied′.mir l27 0) ∷ ‵ (fdies MEmptied′.mir l27) ∷ ‵ (froom tyBool l26 0) ∷ ‵ (fdies tyBool l26) ∷ ‵ (froom MHeld′.mir l25 0) ∷ ‵ (fdies MHeld′.mir l25) ∷ ‵ (froom MMasterWords′.mir l24 0) ∷ ‵ (fdies MMasterWords′.mir l24) ∷ ‵ (froom (tyInt w64) l23 0) ∷ ‵ (fdies (tyInt w64) l23) ∷ ‵ (froom tyBool l22 0) ∷ ‵ (fdies tyBool l22) ∷ ‵ (froom MSeat′.mir l21 0) ∷ ‵ (fdies MSeat′.mir l21) ∷ ‵ (froom MLooked′.mir l20 0) ∷ ‵ (fdies MLooked′.mir l20) ∷ ‵ (froom MLooked′.mir l19 0) ∷ ‵ (fdies MLooked′.mir l19) ∷ ‵ (froom MLooked′.mir l18 0) ∷ ‵ (fdies MLooked′.mir l18) ∷ ‵ (froom MLooked′.mir l17 0) ∷ ‵ (fdies MLooked′.mir l17) ∷ ‵ (froom MLooked′.mir l16 0) ∷ ‵ (fdies MLooked′.mir l16) ∷ ‵ (froom (tyInt w32) l15 0) ∷ ‵ (fdies (tyInt w32) l15) ∷ ‵ (froom tyBool l14 0) ∷ ‵ (fdies tyBool l14) ∷ ‵ (froom MStateWords′.mir l13 0) ∷ ‵ (fdies MStateWords′.mir l13) ∷ ‵ (fat fullShare MSettingsWords′.mir l12 0 u-24) ∷ ‵ (fdies MSettingsWords′.mir l12) ∷ ‵ (froom MMessage′.mir l11 0) ∷ ‵ (fdies MMessage′.mir l11) ∷ ‵ (froom tyBool l10 0) ∷ ‵ (fdies tyBool l10) ∷ ‵ (froom MReceived′.mir l9 0) ∷ ‵ (fdies MReceived′.mir l9) ∷ ‵ (fat fullShare (tyRef (named 5) mut (pointee (R-AnswerWords .written))) l8 0 (vptr b8 o8)) ∷ ‵ (fdies (tyRef (named 5) mut (pointee (R-AnswerWords .written))) l8) ∷ ‵ (froom MStamp′.mir l7 0) ∷ ‵ (fdies MStamp′.mir l7) ∷ ‵ (froom (tyInt w64) l6 0) ∷ ‵ (fdies (tyInt w64) l6) ∷ ‵ (froom (sliceTy (tyRef (named 4) mut (tyInt w8))) l5 0) ∷ ‵ (fdies (sliceTy (tyRef (named 4) mut (tyInt w8))) l5) ∷ ‵ (fat fullShare (tyRef (named 3) mut (pointee (R-Watch .written))) l4 0 (vptr b4 o4)) ∷ ‵ (fdies (tyRef (named 3) mut (pointee (R-Watch .written))) l4) ∷ ‵ (froom (sliceTy (tyRef (named 2) mut (pointee (R-MasterWords .written)))) l3 0) ∷ ‵ (fdies (sliceTy (tyRef (named 2) mut (pointee (R-MasterWords .written)))) l3) ∷ ‵ (fat fullShare (tyRef (named 1) mut (pointee (R-Servo .written))) l2 0 (vptr b2 o2)) ∷ ‵ (fdies (tyRef (named 1) mut (pointee (R-Servo .written))) l2) ∷ ‵ (froom (tyRef (named 0) mut (pointee (R-UnitWords .written))) l1 0) ∷ ‵ (fdies (tyRef (named 0) mut (pointee (R-UnitWords .written))) l1) ∷ ‵ (froom tyUnit l0 0) ∷ ‵ (fdies tyUnit l0) ∷ []) (runs C Λ En mir′.t-25 (atRet En Post))
       from-25 zs-8 len-9 p-4 w-3 e-6 is-7 left1 good u-24 g-25 u-28 g-29 left2 u-118 g-119 u-122 g-123 p-125 w-124 e-126 is-127 left5 =
           move ! (19 ∷ 20 ∷ 8 ∷ []) $
           opens ! tt R-Servo {h = h2} b2 o2 (λ vs-140.
@@ -2793,12 +2795,12 @@ module _ {M : Type 1} (𝓤 : URA M) (H : Heap 𝓤) (A : Atoms 𝓤) (W : Given
           peeks ! R-Servo (Is R-Servo) (shows 𝓤 H A R-Servo) h2 vs-140 (λ g-141.
           rewrite ! 0 (λ (us : List Val). ‵ (R-Servo .own h2 us)) (lone-Servo h2 vs-140 g-141) refl $
           rewrite ! 1 (λ (us : List Val). ‵ (cellAt fullShare (R-Servo .mir) us b2 o2)) (lone-Servo h2 vs-140 g-141) refl $
-          assigns ! (of-opd ! (load ! (from ! (hop ! (look ! 141 refl) (stop !))) (look-raw ! 1 refl))) (from ! (stop !)) (init ! 81 refl (lawful-Servo 𝓤 H A W .typed h2 _ (one-Servo h2 vs-140 g-141) .0)) $
+          assigns ! (of-opd ! (load ! (from ! (hop ! (look ! 149 refl) (stop !))) (look-raw ! 1 refl))) (from ! (stop !)) (init ! 89 refl (lawful-Servo 𝓤 H A W .typed h2 _ (one-Servo h2 vs-140 g-141) .0)) $
           move ! (1 ∷ 0 ∷ 2 ∷ 3 ∷ 4 ∷ []) $
           closes ! tt R-Servo h2 ((only vs-140) ∷ []) b2 o2 $
           from-26 zs-8 len-9 p-4 w-3 e-6 is-7 left1 good u-24 g-25 u-28 g-29 left2 u-118 g-119 u-122 g-123 p-125 w-124 e-126 is-127 left5 (only vs-140) (one-Servo h2 vs-140 g-141)))
 
-      from-24 : (zs-8 : List ℕ) (len-9 : length zs-8 ≡ length h5) (p-4 : SReceived.Received) (w-3 : Val) (e-6 : (p-4 ≡ receivedBy (readOf h5)) × (zs-8 ≡ h5)) (is-7 : Is R-Received p-4 (w-3 ∷ [])) (left1 : Holds (not (p-4 .barred))) (good : Holds (not (not (eqb (length h3) 5)))) (u-24 : Val) (g-25 : Is R-SettingsWords (h1 .settings) (u-24 ∷ [])) (u-28 : Val) (g-29 : Is R-StateWords (h1 .state) (u-28 ∷ [])) (left2 : Holds (not (p-4 .announces))) (u-118 : Val) (g-119 : Is R-HalvesWords (h1 .halves) (u-118 ∷ [])) (u-122 : Val) (g-123 : Is R-DelaysWords (h1 .delays) (u-122 ∷ [])) (p-125 : STold.Told) (w-124 : Val) (e-126 : p-125 ≡ heardTold (h1 .settings) (h1 .state) (h1 .halves) (h1 .delays) (p-4 .message) h6 h7) (is-127 : Is R-Told p-125 (w-124 ∷ [])) (left5 : Holds (not (p-125 .barred))) → Sq W (‵ (fobs γ1 (R-UnitWords .coded .code (with-UnitWords-2 (with-UnitWords-1 h1 (p-125 .state)) (p-125 .halves)))) ∷ ‵ (fbor κ1 (Body (mem R-UnitWords) b1 o1 γ1)) ∷ ‵ (flft κ1 q1) ∷ ‵ (MutSlice (named 4) κ5 R-u8 .own (x5 zs-8) ((sliceVal (b5, o5) (length h5)) ∷ [])) ∷ ‵ (flft κ5 q5) ∷ ‵ (flft κ8 q8) ∷ ‵ (flft κ4 q4) ∷ ‵ (flft κ3 q3) ∷ ‵ (flft κ2 q2) ∷ ‵ (ftrue) ∷ ‵ (fobs γ8 (R-AnswerWords .coded .code h8)) ∷ ‵ (fbor κ8 (Body (mem R-AnswerWords) b8 o8 γ8)) ∷ ‵ (R-Stamp .own h7 (u7 ∷ [])) ∷ ‵ (R-u64 .own h6 (u6 ∷ [])) ∷ ‵ (fobs γ4 (R-Watch .coded .code h4)) ∷ ‵ (fbor κ4 (Body (mem R-Watch) b4 o4 γ4)) ∷ ‵ (fobs γ3 (codedHoleys R-MasterWords .code (heres R-MasterWords h3))) ∷ ‵ (fbor κ3 (Held R-MasterWords (length h3) b3 o3 γ3)) ∷ ‵ (at-slice R-MasterWords (x3 h3) ((sliceVal (b3, o3) (length h3)) ∷ [])) ∷ ‵ (fobs γ2 (R-Servo .coded .code h2)) ∷ ‵ (fbor κ2 (Body (mem R-Servo) b2 o2 γ2)) ∷ ‵ (froom (tyRef erased mut (pointee (R-u8x128 .written))) l61 0) ∷ ‵ (fdies (tyRef erased mut (pointee (R-u8x128 .written))) l61) ∷ ‵ (froom (tyRef erased mut (pointee (R-i32x128 .written))) l60 0) ∷ ‵ (fdies (tyRef erased mut (pointee (R-i32x128 .written))) l60) ∷ ‵ (froom (tyRef erased mut (pointee (R-i64x128 .written))) l59 0) ∷ ‵ (fdies (tyRef erased mut (pointee (R-i64x128 .written))) l59) ∷ ‵ (froom MHead′.mir l58 0) ∷ ‵ (fdies MHead′.mir l58) ∷ ‵ (froom MAnswerWords′.mir l57 0) ∷ ‵ (fdies MAnswerWords′.mir l57) ∷ ‵ (froom MAnswerWords′.mir l56 0) ∷ ‵ (fdies MAnswerWords′.mir l56) ∷ ‵ (froom (tyRef erased mut (pointee (R-u8x128 .written))) l55 0) ∷ ‵ (fdies (tyRef erased mut (pointee (R-u8x128 .written))) l55) ∷ ‵ (froom (tyRef erased mut (pointee (R-i32x128 .written))) l54 0) ∷ ‵ (fdies (tyRef erased mut (pointee (R-i32x128 .written))) l54) ∷ ‵ (froom (tyRef erased mut (pointee (R-i64x128 .written))) l53 0) ∷ ‵ (fdies (tyRef erased mut (pointee (R-i64x128 .written))) l53) ∷ ‵ (froom MHead′.mir l52 0) ∷ ‵ (fdies MHead′.mir l52) ∷ ‵ (froom tyPtr l51 0) ∷ ‵ (fdies tyPtr l51) ∷ ‵ (froom tyPtr l50 0) ∷ ‵ (fdies tyPtr l50) ∷ ‵ (froom (tyInt w64) l49 0) ∷ ‵ (fdies (tyInt w64) l49) ∷ ‵ (froom MAnswerWords′.mir l48 0) ∷ ‵ (fdies MAnswerWords′.mir l48) ∷ ‵ (froom tyBool l47 0) ∷ ‵ (fdies tyBool l47) ∷ ‵ (froom tyPtr l46 0) ∷ ‵ (fdies tyPtr l46) ∷ ‵ (froom tyPtr l45 0) ∷ ‵ (fdies tyPtr l45) ∷ ‵ (froom tyPtr l44 0) ∷ ‵ (fdies tyPtr l44) ∷ ‵ (froom tyPtr l43 0) ∷ ‵ (fdies tyPtr l43) ∷ ‵ (froom MMasterWords′.mir l42 0) ∷ ‵ (fdies MMasterWords′.mir l42) ∷ ‵ (froom tyPtr l41 0) ∷ ‵ (fdies tyPtr l41) ∷ ‵ (froom MAnswerWords′.mir l40 0) ∷ ‵ (fdies MAnswerWords′.mir l40) ∷ ‵ (froom (tyInt w64) l39 0) ∷ ‵ (fdies (tyInt w64) l39) ∷ ‵ (froom MAnswerWords′.mir l38 0) ∷ ‵ (fdies MAnswerWords′.mir l38) ∷ ‵ (froom tyBool l37 0) ∷ ‵ (fdies tyBool l37) ∷ ‵ (froom (sliceTy (tyRef erased mut (tyInt w8))) l36 0) ∷ ‵ (fdies (sliceTy (tyRef erased mut (tyInt w8))) l36) ∷ ‵ (froom (tyRef erased mut (tyInt w8)) l35 0) ∷ ‵ (fdies (tyRef erased mut (tyInt w8)) l35) ∷ ‵ (froom tyBool l34 0) ∷ ‵ (fdies tyBool l34) ∷ ‵ (froom MServo′.mir l33 0) ∷ ‵ (fdies MServo′.mir l33) ∷ ‵ (froom MServo′.mir l32 0) ∷ ‵ (fdies MServo′.mir l32) ∷ ‵ (froom tyBool l31 0) ∷ ‵ (fdies tyBool l31) ∷ ‵ (fat fullShare MTold′.mir l30 0 (vstruct (ofList ((parts-Told p-125 w-124 is-127) .pu0 ∷ (parts-Told p-125 w-124 is-127) .pu1 ∷ (parts-Told p-125 w-124 is-127) .pu2 ∷ (parts-Told p-125 w-124 is-127) .pu3 ∷ (parts-Told p-125 w-124 is-127) .pu4 ∷ (parts-Told p-125 w-124 is-127) .pu5 ∷ (parts-Told p-125 w-124 is-127) .pu6 ∷ (parts-Told p-125 w-124 is-127) .pu7 ∷ (parts-Told p-125 w-124 is-127) .pu8 ∷ (parts-Told p-125 w-124 is-127) .pu9 ∷ [])))) ∷ ‵ (fdies MTold′.mir l30) ∷ ‵ (froom MDelaysWords′.mir l29 0) ∷ ‵ (fdies MDelaysWords′.mir l29) ∷ ‵ (froom MHalvesWords′.mir l28 0) ∷ ‵ (fdies MHalvesWords′.mir l28) ∷ ‵ (froom MEmptied′.mir l27 0) ∷ ‵ (fdies MEmptied′.mir l27) ∷ ‵ (froom tyBool l26 0) ∷ ‵ (fdies tyBool l26) ∷ ‵ (froom MHeld′.mir l25 0) ∷ ‵ (fdies MHeld′.mir l25) ∷ ‵ (froom MMasterWords′.mir l24 0) ∷ ‵ (fdies MMasterWords′.mir l24) ∷ ‵ (froom (tyInt w64) l23 0) ∷ ‵ (fdies (tyInt w64) l23) ∷ ‵ (froom tyBool l22 0) ∷ ‵ (fdies tyBool l22) ∷ ‵ (froom MSeat′.mir l21 0) ∷ ‵ (fdies MSeat′.mir l21) ∷ ‵ (froom MLooked′.mir l20 0) ∷ ‵ (fdies MLooked′.mir l20) ∷ ‵ (froom MLooked′.mir l19 0) ∷ ‵ (fdies MLooked′.mir l19) ∷ ‵ (froom MLooked′.mir l18 0) ∷ ‵ (fdies MLooked′.mir l18) ∷ ‵ (froom MLooked′.mir l17 0) ∷ ‵ (fdies MLooked′.mir l17) ∷ ‵ (froom MLooked′.mir l16 0) ∷ ‵ (fdies MLooked′.mir l16) ∷ ‵ (froom (tyInt w32) l15 0) ∷ ‵ (fdies (tyInt w32) l15) ∷ ‵ (froom tyBool l14 0) ∷ ‵ (fdies tyBool l14) ∷ ‵ (froom MStateWords′.mir l13 0) ∷ ‵ (fdies MStateWords′.mir l13) ∷ ‵ (fat fullShare MSettingsWords′.mir l12 0 u-24) ∷ ‵ (fdies MSettingsWords′.mir l12) ∷ ‵ (froom MMessage′.mir l11 0) ∷ ‵ (fdies MMessage′.mir l11) ∷ ‵ (froom tyBool l10 0) ∷ ‵ (fdies tyBool l10) ∷ ‵ (froom MReceived′.mir l9 0) ∷ ‵ (fdies MReceived′.mir l9) ∷ ‵ (fat fullShare (tyRef (named 5) mut (pointee (R-AnswerWords .written))) l8 0 (vptr b8 o8)) ∷ ‵ (fdies (tyRef (named 5) mut (pointee (R-AnswerWords .written))) l8) ∷ ‵ (froom MStamp′.mir l7 0) ∷ ‵ (fdies MStamp′.mir l7) ∷ ‵ (froom (tyInt w64) l6 0) ∷ ‵ (fdies (tyInt w64) l6) ∷ ‵ (froom (sliceTy (tyRef (named 4) mut (tyInt w8))) l5 0) ∷ ‵ (fdies (sliceTy (tyRef (named 4) mut (tyInt w8))) l5) ∷ ‵ (fat fullShare (tyRef (named 3) mut (pointee (R-Watch .written))) l4 0 (vptr b4 o4)) ∷ ‵ (fdies (tyRef (named 3) mut (pointee (R-Watch .written))) l4) ∷ ‵ (froom (sliceTy (tyRef (named 2) mut (pointee (R-MasterWords .written)))) l3 0) ∷ ‵ (fdies (sliceTy (tyRef (named 2) mut (pointee (R-MasterWords .written)))) l3) ∷ ‵ (fat fullShare (tyRef (named 1) mut (pointee (R-Servo .written))) l2 0 (vptr b2 o2)) ∷ ‵ (fdies (tyRef (named 1) mut (pointee (R-Servo .written))) l2) ∷ ‵ (fat fullShare (tyRef (named 0) mut (pointee (R-UnitWords .written))) l1 0 (vptr b1 o1)) ∷ ‵ (fdies (tyRef (named 0) mut (pointee (R-UnitWords .written))) l1) ∷ ‵ (froom tyUnit l0 0) ∷ ‵ (fdies tyUnit l0) ∷ []) (runs C Λ En mir′.t-24 (atRet En Post))
+      from-24 : (zs-8 : List ℕ) (len-9 : length zs-8 ≡ length h5) (p-4 : SReceived.Received) (w-3 : Val) (e-6 : (p-4 ≡ receivedBy (readOf h5)) × (zs-8 ≡ h5)) (is-7 : Is R-Received p-4 (w-3 ∷ [])) (left1 : Holds (not (p-4 .barred))) (good : Holds (not (not (eqb (length h3) 5)))) (u-24 : Val) (g-25 : Is R-SettingsWords (h1 .settings) (u-24 ∷ [])) (u-28 : Val) (g-29 : Is R-StateWords (h1 .state) (u-28 ∷ [])) (left2 : Holds (not (p-4 .announces))) (u-118 : Val) (g-119 : Is R-HalvesWords (h1 .halves) (u-118 ∷ [])) (u-122 : Val) (g-123 : Is R-DelaysWords (h1 .delays) (u-122 ∷ [])) (p-125 : STold.Told) (w-124 : Val) (e-126 : p-125 ≡ heardTold (h1 .settings) (h1 .state) (h1 .halves) (h1 .delays) (p-4 .message) h6 h7) (is-127 : Is R-Told p-125 (w-124 ∷ [])) (left5 : Holds (not (p-125 .barred))) → Sq W (‵ (fobs γ1 (R-UnitWords .coded .code (with-UnitWords-2 (with-UnitWords-1 h1 (p-125 .state)) (p-125 .halves)))) ∷ ‵ (fbor κ1 (Body (mem R-UnitWords) b1 o1 γ1)) ∷ ‵ (flft κ1 q1) ∷ ‵ (MutSlice (named 4) κ5 R-u8 .own (x5 zs-8) ((sliceVal (b5, o5) (length h5)) ∷ [])) ∷ ‵ (flft κ5 q5) ∷ ‵ (flft κ8 q8) ∷ ‵ (flft κ4 q4) ∷ ‵ (flft κ3 q3) ∷ ‵ (flft κ2 q2) ∷ ‵ (ftrue) ∷ ‵ (fobs γ8 (R-AnswerWords .coded .code h8)) ∷ ‵ (fbor κ8 (Body (mem R-AnswerWords) b8 o8 γ8)) ∷ ‵ (R-Stamp .own h7 (u7 ∷ [])) ∷ ‵ (R-u64 .own h6 (u6 ∷ [])) ∷ ‵ (fobs γ4 (R-Watch .coded .code h4)) ∷ ‵ (fbor κ4 (Body (mem R-Watch) b4 o4 γ4)) ∷ ‵ (fobs γ3 (codedHoleys R-MasterWords .code (heres R-MasterWords h3))) ∷ ‵ (fbor κ3 (Held R-MasterWords (length h3) b3 o3 γ3)) ∷ ‵ (at-slice R-MasterWords (x3 h3) ((sliceVal (b3, o3) (length h3)) ∷ [])) ∷ ‵ (fobs γ2 (R-Servo .coded .code h2)) ∷ ‵ (fbor κ2 (Body (mem R-Servo) b2 o2 γ2)) ∷ ‵ (froom (tyRef erased mut (pointee (R-u8x128 .written))) l65 0) ∷ ‵ (fdies (tyRef erased mut (pointee (R-u8x128 .written))) l65) ∷ ‵ (froom (tyRef erased mut (pointee (R-i32x128 .written))) l64 0) ∷ ‵ (fdies (tyRef erased mut (pointee (R-i32x128 .written))) l64) ∷ ‵ (froom (tyRef erased mut (pointee (R-i64x128 .written))) l63 0) ∷ ‵ (fdies (tyRef erased mut (pointee (R-i64x128 .written))) l63) ∷ ‵ (froom MHead′.mir l62 0) ∷ ‵ (fdies MHead′.mir l62) ∷ ‵ (froom MAnswerWords′.mir l61 0) ∷ ‵ (fdies MAnswerWords′.mir l61) ∷ ‵ (froom MAnswerWords′.mir l60 0) ∷ ‵ (fdies MAnswerWords′.mir l60) ∷ ‵ (froom (tyRef erased mut (pointee (R-u8x128 .written))) l59 0) ∷ ‵ (fdies (tyRef erased mut (pointee (R-u8x128 .written))) l59) ∷ ‵ (froom (tyRef erased mut (pointee (R-i32x128 .written))) l58 0) ∷ ‵ (fdies (tyRef erased mut (pointee (R-i32x128 .written))) l58) ∷ ‵ (froom (tyRef erased mut (pointee (R-i64x128 .written))) l57 0) ∷ ‵ (fdies (tyRef erased mut (pointee (R-i64x128 .written))) l57) ∷ ‵ (froom MHead′.mir l56 0) ∷ ‵ (fdies MHead′.mir l56) ∷ ‵ (froom tyPtr l55 0) ∷ ‵ (fdies tyPtr l55) ∷ ‵ (froom tyPtr l54 0) ∷ ‵ (fdies tyPtr l54) ∷ ‵ (froom (tyInt w64) l53 0) ∷ ‵ (fdies (tyInt w64) l53) ∷ ‵ (froom MAnswerWords′.mir l52 0) ∷ ‵ (fdies MAnswerWords′.mir l52) ∷ ‵ (froom tyBool l51 0) ∷ ‵ (fdies tyBool l51) ∷ ‵ (froom tyPtr l50 0) ∷ ‵ (fdies tyPtr l50) ∷ ‵ (froom tyPtr l49 0) ∷ ‵ (fdies tyPtr l49) ∷ ‵ (froom tyPtr l48 0) ∷ ‵ (fdies tyPtr l48) ∷ ‵ (froom tyPtr l47 0) ∷ ‵ (fdies tyPtr l47) ∷ ‵ (froom MMasterWords′.mir l46 0) ∷ ‵ (fdies MMasterWords′.mir l46) ∷ ‵ (froom tyPtr l45 0) ∷ ‵ (fdies tyPtr l45) ∷ ‵ (froom MAnswerWords′.mir l44 0) ∷ ‵ (fdies MAnswerWords′.mir l44) ∷ ‵ (froom (tyInt w64) l43 0) ∷ ‵ (fdies (tyInt w64) l43) ∷ ‵ (froom MAnswerWords′.mir l42 0) ∷ ‵ (fdies MAnswerWords′.mir l42) ∷ ‵ (froom tyBool l41 0) ∷ ‵ (fdies tyBool l41) ∷ ‵ (froom (sliceTy (tyRef erased mut (tyInt w8))) l40 0) ∷ ‵ (fdies (sliceTy (tyRef erased mut (tyInt w8))) l40) ∷ ‵ (froom (tyRef erased mut (tyInt w8)) l39 0) ∷ ‵ (fdies (tyRef erased mut (tyInt w8)) l39) ∷ ‵ (froom (tyInt w16) l38 0) ∷ ‵ (fdies (tyInt w16) l38) ∷ ‵ (froom (tyInt w8) l37 0) ∷ ‵ (fdies (tyInt w8) l37) ∷ ‵ (froom MServo′.mir l36 0) ∷ ‵ (fdies MServo′.mir l36) ∷ ‵ (froom tyBool l35 0) ∷ ‵ (fdies tyBool l35) ∷ ‵ (froom tyBool l34 0) ∷ ‵ (fdies tyBool l34) ∷ ‵ (froom MAccepted′.mir l33 0) ∷ ‵ (fdies MAccepted′.mir l33) ∷ ‵ (froom MServo′.mir l32 0) ∷ ‵ (fdies MServo′.mir l32) ∷ ‵ (froom tyBool l31 0) ∷ ‵ (fdies tyBool l31) ∷ ‵ (fat fullShare MTold′.mir l30 0 (vstruct (ofList ((parts-Told p-125 w-124 is-127) .pu0 ∷ (parts-Told p-125 w-124 is-127) .pu1 ∷ (parts-Told p-125 w-124 is-127) .pu2 ∷ (parts-Told p-125 w-124 is-127) .pu3 ∷ (parts-Told p-125 w-124 is-127) .pu4 ∷ (parts-Told p-125 w-124 is-127) .pu5 ∷ (parts-Told p-125 w-124 is-127) .pu6 ∷ (parts-Told p-125 w-124 is-127) .pu7 ∷ (parts-Told p-125 w-124 is-127) .pu8 ∷ (parts-Told p-125 w-124 is-127) .pu9 ∷ [])))) ∷ ‵ (fdies MTold′.mir l30) ∷ ‵ (froom MDelaysWords′.mir l29 0) ∷ ‵ (fdies MDelaysWords′.mir l29) ∷ ‵ (froom MHalvesWords′.mir l28 0) ∷ ‵ (fdies MHalvesWords′.mir l28) ∷ ‵ (froom MEmptied′.mir l27 0) ∷ ‵ (fdies MEmptied′.mir l27) ∷ ‵ (froom tyBool l26 0) ∷ ‵ (fdies tyBool l26) ∷ ‵ (froom MHeld′.mir l25 0) ∷ ‵ (fdies MHeld′.mir l25) ∷ ‵ (froom MMasterWords′.mir l24 0) ∷ ‵ (fdies MMasterWords′.mir l24) ∷ ‵ (froom (tyInt w64) l23 0) ∷ ‵ (fdies (tyInt w64) l23) ∷ ‵ (froom tyBool l22 0) ∷ ‵ (fdies tyBool l22) ∷ ‵ (froom MSeat′.mir l21 0) ∷ ‵ (fdies MSeat′.mir l21) ∷ ‵ (froom MLooked′.mir l20 0) ∷ ‵ (fdies MLooked′.mir l20) ∷ ‵ (froom MLooked′.mir l19 0) ∷ ‵ (fdies MLooked′.mir l19) ∷ ‵ (froom MLooked′.mir l18 0) ∷ ‵ (fdies MLooked′.mir l18) ∷ ‵ (froom MLooked′.mir l17 0) ∷ ‵ (fdies MLooked′.mir l17) ∷ ‵ (froom MLooked′.mir l16 0) ∷ ‵ (fdies MLooked′.mir l16) ∷ ‵ (froom (tyInt w32) l15 0) ∷ ‵ (fdies (tyInt w32) l15) ∷ ‵ (froom tyBool l14 0) ∷ ‵ (fdies tyBool l14) ∷ ‵ (froom MStateWords′.mir l13 0) ∷ ‵ (fdies MStateWords′.mir l13) ∷ ‵ (fat fullShare MSettingsWords′.mir l12 0 u-24) ∷ ‵ (fdies MSettingsWords′.mir l12) ∷ ‵ (froom MMessage′.mir l11 0) ∷ ‵ (fdies MMessage′.mir l11) ∷ ‵ (froom tyBool l10 0) ∷ ‵ (fdies tyBool l10) ∷ ‵ (froom MReceived′.mir l9 0) ∷ ‵ (fdies MReceived′.mir l9) ∷ ‵ (fat fullShare (tyRef (named 5) mut (pointee (R-AnswerWords .written))) l8 0 (vptr b8 o8)) ∷ ‵ (fdies (tyRef (named 5) mut (pointee (R-AnswerWords .written))) l8) ∷ ‵ (froom MStamp′.mir l7 0) ∷ ‵ (fdies MStamp′.mir l7) ∷ ‵ (froom (tyInt w64) l6 0) ∷ ‵ (fdies (tyInt w64) l6) ∷ ‵ (froom (sliceTy (tyRef (named 4) mut (tyInt w8))) l5 0) ∷ ‵ (fdies (sliceTy (tyRef (named 4) mut (tyInt w8))) l5) ∷ ‵ (fat fullShare (tyRef (named 3) mut (pointee (R-Watch .written))) l4 0 (vptr b4 o4)) ∷ ‵ (fdies (tyRef (named 3) mut (pointee (R-Watch .written))) l4) ∷ ‵ (froom (sliceTy (tyRef (named 2) mut (pointee (R-MasterWords .written)))) l3 0) ∷ ‵ (fdies (sliceTy (tyRef (named 2) mut (pointee (R-MasterWords .written)))) l3) ∷ ‵ (fat fullShare (tyRef (named 1) mut (pointee (R-Servo .written))) l2 0 (vptr b2 o2)) ∷ ‵ (fdies (tyRef (named 1) mut (pointee (R-Servo .written))) l2) ∷ ‵ (fat fullShare (tyRef (named 0) mut (pointee (R-UnitWords .written))) l1 0 (vptr b1 o1)) ∷ ‵ (fdies (tyRef (named 0) mut (pointee (R-UnitWords .written))) l1) ∷ ‵ (froom tyUnit l0 0) ∷ ‵ (fdies tyUnit l0) ∷ []) (runs C Λ En mir′.t-24 (atRet En Post))
       from-24 zs-8 len-9 p-4 w-3 e-6 is-7 left1 good u-24 g-25 u-28 g-29 left2 u-118 g-119 u-122 g-123 p-125 w-124 e-126 is-127 left5 =
           opens ! tt R-UnitWords {h = (with-UnitWords-2 (with-UnitWords-1 h1 (p-125 .state)) (p-125 .halves))} b1 o1 (λ vs-138.
           move ! (1 ∷ []) $
@@ -2808,17 +2810,17 @@ module _ {M : Type 1} (𝓤 : URA M) (H : Heap 𝓤) (A : Atoms 𝓤) (W : Given
           move ! (1 ∷ []) $
           use1 W (‵ (fat fullShare MUnitWords′.mir b1 o1 (only vs-138))) (W .laws .raw-at fullShare MUnitWords′.mir b1 o1 (only vs-138)) $
           rewrite ! 0 (λ (u : Val). ‵ (fat fullShare MUnitWords′.mir b1 o1 u)) ((parts-UnitWords (with-UnitWords-2 (with-UnitWords-1 h1 (p-125 .state)) (p-125 .halves)) (only vs-138) (one-UnitWords (with-UnitWords-2 (with-UnitWords-1 h1 (p-125 .state)) (p-125 .halves)) vs-138 g-139)) .whole-is) refl $
-          assigns ! (of-opd ! (load ! (from ! (fld ! {τ = MDelaysWords′.mir} {d = off-Told-1} field-Told-1 (stop !))) (look-in ! 85 (sub ! {ν = name-of MTold′.mir} {τs = tys-of MTold′.mir} 1 {τ = MDelaysWords′.mir} {d = off-Told-1} field-Told-1 (whole !))))) (from ! (hop ! (look ! 143 refl) (fld ! {τ = MDelaysWords′.mir} {d = off-UnitWords-3} field-UnitWords-3 (stop !)))) (store-in ! 0 (sub ! {ν = name-of MUnitWords′.mir} {τs = tys-of MUnitWords′.mir} 3 {τ = MDelaysWords′.mir} {d = off-UnitWords-3} field-UnitWords-3 (whole !)) (lawful-DelaysWords 𝓤 H A W .typed (p-125 .delays) _ ((parts-Told p-125 w-124 is-127) .pg1) .0)) $
+          assigns ! (of-opd ! (load ! (from ! (fld ! {τ = MDelaysWords′.mir} {d = off-Told-1} field-Told-1 (stop !))) (look-in ! 93 (sub ! {ν = name-of MTold′.mir} {τs = tys-of MTold′.mir} 1 {τ = MDelaysWords′.mir} {d = off-Told-1} field-Told-1 (whole !))))) (from ! (hop ! (look ! 151 refl) (fld ! {τ = MDelaysWords′.mir} {d = off-UnitWords-3} field-UnitWords-3 (stop !)))) (store-in ! 0 (sub ! {ν = name-of MUnitWords′.mir} {τs = tys-of MUnitWords′.mir} 3 {τ = MDelaysWords′.mir} {d = off-UnitWords-3} field-UnitWords-3 (whole !)) (lawful-DelaysWords 𝓤 H A W .typed (p-125 .delays) _ ((parts-Told p-125 w-124 is-127) .pg1) .0)) $
           use1 W (‵ (cellAt fullShare (R-UnitWords .mir) ((vstruct (ofList (((parts-UnitWords (with-UnitWords-2 (with-UnitWords-1 h1 (p-125 .state)) (p-125 .halves)) (only vs-138) (one-UnitWords (with-UnitWords-2 (with-UnitWords-1 h1 (p-125 .state)) (p-125 .halves)) vs-138 g-139)) .pu0) ∷ ((parts-UnitWords (with-UnitWords-2 (with-UnitWords-1 h1 (p-125 .state)) (p-125 .halves)) (only vs-138) (one-UnitWords (with-UnitWords-2 (with-UnitWords-1 h1 (p-125 .state)) (p-125 .halves)) vs-138 g-139)) .pu1) ∷ ((parts-UnitWords (with-UnitWords-2 (with-UnitWords-1 h1 (p-125 .state)) (p-125 .halves)) (only vs-138) (one-UnitWords (with-UnitWords-2 (with-UnitWords-1 h1 (p-125 .state)) (p-125 .halves)) vs-138 g-139)) .pu2) ∷ ((parts-Told p-125 w-124 is-127) .pu1) ∷ []))) ∷ []) b1 o1)) (W .laws .at-raw fullShare MUnitWords′.mir b1 o1 (vstruct (ofList (((parts-UnitWords (with-UnitWords-2 (with-UnitWords-1 h1 (p-125 .state)) (p-125 .halves)) (only vs-138) (one-UnitWords (with-UnitWords-2 (with-UnitWords-1 h1 (p-125 .state)) (p-125 .halves)) vs-138 g-139)) .pu0) ∷ ((parts-UnitWords (with-UnitWords-2 (with-UnitWords-1 h1 (p-125 .state)) (p-125 .halves)) (only vs-138) (one-UnitWords (with-UnitWords-2 (with-UnitWords-1 h1 (p-125 .state)) (p-125 .halves)) vs-138 g-139)) .pu1) ∷ ((parts-UnitWords (with-UnitWords-2 (with-UnitWords-1 h1 (p-125 .state)) (p-125 .halves)) (only vs-138) (one-UnitWords (with-UnitWords-2 (with-UnitWords-1 h1 (p-125 .state)) (p-125 .halves)) vs-138 g-139)) .pu2) ∷ ((parts-Told p-125 w-124 is-127) .pu1) ∷ [])))) $
           move ! (1 ∷ []) $
           drop ! $
           owned ! R-UnitWords (Is R-UnitWords) (makes-UnitWords 𝓤 H A W) (with-UnitWords-3 (with-UnitWords-2 (with-UnitWords-1 h1 (p-125 .state)) (p-125 .halves)) (p-125 .delays)) _ (shape-UnitWords (with-UnitWords-3 (with-UnitWords-2 (with-UnitWords-1 h1 (p-125 .state)) (p-125 .halves)) (p-125 .delays)) ((parts-UnitWords (with-UnitWords-2 (with-UnitWords-1 h1 (p-125 .state)) (p-125 .halves)) (only vs-138) (one-UnitWords (with-UnitWords-2 (with-UnitWords-1 h1 (p-125 .state)) (p-125 .halves)) vs-138 g-139)) .pu0) ((parts-UnitWords (with-UnitWords-2 (with-UnitWords-1 h1 (p-125 .state)) (p-125 .halves)) (only vs-138) (one-UnitWords (with-UnitWords-2 (with-UnitWords-1 h1 (p-125 .state)) (p-125 .halves)) vs-138 g-139)) .pu1) ((parts-UnitWords (with-UnitWords-2 (with-UnitWords-1 h1 (p-125 .state)) (p-125 .halves)) (only vs-138) (one-UnitWords (with-UnitWords-2 (with-UnitWords-1 h1 (p-125 .state)) (p-125 .halves)) vs-138 g-139)) .pu2) ((parts-Told p-125 w-124 is-127) .pu1) ((parts-UnitWords (with-UnitWords-2 (with-UnitWords-1 h1 (p-125 .state)) (p-125 .halves)) (only vs-138) (one-UnitWords (with-UnitWords-2 (with-UnitWords-1 h1 (p-125 .state)) (p-125 .halves)) vs-138 g-139)) .pg0) ((parts-UnitWords (with-UnitWords-2 (with-UnitWords-1 h1 (p-125 .state)) (p-125 .halves)) (only vs-138) (one-UnitWords (with-UnitWords-2 (with-UnitWords-1 h1 (p-125 .state)) (p-125 .halves)) vs-138 g-139)) .pg1) ((parts-UnitWords (with-UnitWords-2 (with-UnitWords-1 h1 (p-125 .state)) (p-125 .halves)) (only vs-138) (one-UnitWords (with-UnitWords-2 (with-UnitWords-1 h1 (p-125 .state)) (p-125 .halves)) vs-138 g-139)) .pg2) ((parts-Told p-125 w-124 is-127) .pg1)) $
           move ! (1 ∷ 0 ∷ 2 ∷ 3 ∷ 4 ∷ []) $
           closes ! tt R-UnitWords (with-UnitWords-3 (with-UnitWords-2 (with-UnitWords-1 h1 (p-125 .state)) (p-125 .halves)) (p-125 .delays)) ((vstruct (ofList (((parts-UnitWords (with-UnitWords-2 (with-UnitWords-1 h1 (p-125 .state)) (p-125 .halves)) (only vs-138) (one-UnitWords (with-UnitWords-2 (with-UnitWords-1 h1 (p-125 .state)) (p-125 .halves)) vs-138 g-139)) .pu0) ∷ ((parts-UnitWords (with-UnitWords-2 (with-UnitWords-1 h1 (p-125 .state)) (p-125 .halves)) (only vs-138) (one-UnitWords (with-UnitWords-2 (with-UnitWords-1 h1 (p-125 .state)) (p-125 .halves)) vs-138 g-139)) .pu1) ∷ ((parts-UnitWords (with-UnitWords-2 (with-UnitWords-1 h1 (p-125 .state)) (p-125 .halves)) (only vs-138) (one-UnitWords (with-UnitWords-2 (with-UnitWords-1 h1 (p-125 .state)) (p-125 .halves)) vs-138 g-139)) .pu2) ∷ ((parts-Told p-125 w-124 is-127) .pu1) ∷ []))) ∷ []) b1 o1 $
-          forget ! 141 refl $
+          forget ! 149 refl $
           from-25 zs-8 len-9 p-4 w-3 e-6 is-7 left1 good u-24 g-25 u-28 g-29 left2 u-118 g-119 u-122 g-123 p-125 w-124 e-126 is-127 left5))
 
-      from-23 : (zs-8 : List ℕ) (len-9 : length zs-8 ≡ length h5) (p-4 : SReceived.Received) (w-3 : Val) (e-6 : (p-4 ≡ receivedBy (readOf h5)) × (zs-8 ≡ h5)) (is-7 : Is R-Received p-4 (w-3 ∷ [])) (left1 : Holds (not (p-4 .barred))) (good : Holds (not (not (eqb (length h3) 5)))) (u-24 : Val) (g-25 : Is R-SettingsWords (h1 .settings) (u-24 ∷ [])) (u-28 : Val) (g-29 : Is R-StateWords (h1 .state) (u-28 ∷ [])) (left2 : Holds (not (p-4 .announces))) (u-118 : Val) (g-119 : Is R-HalvesWords (h1 .halves) (u-118 ∷ [])) (u-122 : Val) (g-123 : Is R-DelaysWords (h1 .delays) (u-122 ∷ [])) (p-125 : STold.Told) (w-124 : Val) (e-126 : p-125 ≡ heardTold (h1 .settings) (h1 .state) (h1 .halves) (h1 .delays) (p-4 .message) h6 h7) (is-127 : Is R-Told p-125 (w-124 ∷ [])) (left5 : Holds (not (p-125 .barred))) → Sq W (‵ (fobs γ1 (R-UnitWords .coded .code (with-UnitWords-1 h1 (p-125 .state)))) ∷ ‵ (fbor κ1 (Body (mem R-UnitWords) b1 o1 γ1)) ∷ ‵ (flft κ1 q1) ∷ ‵ (MutSlice (named 4) κ5 R-u8 .own (x5 zs-8) ((sliceVal (b5, o5) (length h5)) ∷ [])) ∷ ‵ (flft κ5 q5) ∷ ‵ (flft κ8 q8) ∷ ‵ (flft κ4 q4) ∷ ‵ (flft κ3 q3) ∷ ‵ (flft κ2 q2) ∷ ‵ (ftrue) ∷ ‵ (fobs γ8 (R-AnswerWords .coded .code h8)) ∷ ‵ (fbor κ8 (Body (mem R-AnswerWords) b8 o8 γ8)) ∷ ‵ (R-Stamp .own h7 (u7 ∷ [])) ∷ ‵ (R-u64 .own h6 (u6 ∷ [])) ∷ ‵ (fobs γ4 (R-Watch .coded .code h4)) ∷ ‵ (fbor κ4 (Body (mem R-Watch) b4 o4 γ4)) ∷ ‵ (fobs γ3 (codedHoleys R-MasterWords .code (heres R-MasterWords h3))) ∷ ‵ (fbor κ3 (Held R-MasterWords (length h3) b3 o3 γ3)) ∷ ‵ (at-slice R-MasterWords (x3 h3) ((sliceVal (b3, o3) (length h3)) ∷ [])) ∷ ‵ (fobs γ2 (R-Servo .coded .code h2)) ∷ ‵ (fbor κ2 (Body (mem R-Servo) b2 o2 γ2)) ∷ ‵ (froom (tyRef erased mut (pointee (R-u8x128 .written))) l61 0) ∷ ‵ (fdies (tyRef erased mut (pointee (R-u8x128 .written))) l61) ∷ ‵ (froom (tyRef erased mut (pointee (R-i32x128 .written))) l60 0) ∷ ‵ (fdies (tyRef erased mut (pointee (R-i32x128 .written))) l60) ∷ ‵ (froom (tyRef erased mut (pointee (R-i64x128 .written))) l59 0) ∷ ‵ (fdies (tyRef erased mut (pointee (R-i64x128 .written))) l59) ∷ ‵ (froom MHead′.mir l58 0) ∷ ‵ (fdies MHead′.mir l58) ∷ ‵ (froom MAnswerWords′.mir l57 0) ∷ ‵ (fdies MAnswerWords′.mir l57) ∷ ‵ (froom MAnswerWords′.mir l56 0) ∷ ‵ (fdies MAnswerWords′.mir l56) ∷ ‵ (froom (tyRef erased mut (pointee (R-u8x128 .written))) l55 0) ∷ ‵ (fdies (tyRef erased mut (pointee (R-u8x128 .written))) l55) ∷ ‵ (froom (tyRef erased mut (pointee (R-i32x128 .written))) l54 0) ∷ ‵ (fdies (tyRef erased mut (pointee (R-i32x128 .written))) l54) ∷ ‵ (froom (tyRef erased mut (pointee (R-i64x128 .written))) l53 0) ∷ ‵ (fdies (tyRef erased mut (pointee (R-i64x128 .written))) l53) ∷ ‵ (froom MHead′.mir l52 0) ∷ ‵ (fdies MHead′.mir l52) ∷ ‵ (froom tyPtr l51 0) ∷ ‵ (fdies tyPtr l51) ∷ ‵ (froom tyPtr l50 0) ∷ ‵ (fdies tyPtr l50) ∷ ‵ (froom (tyInt w64) l49 0) ∷ ‵ (fdies (tyInt w64) l49) ∷ ‵ (froom MAnswerWords′.mir l48 0) ∷ ‵ (fdies MAnswerWords′.mir l48) ∷ ‵ (froom tyBool l47 0) ∷ ‵ (fdies tyBool l47) ∷ ‵ (froom tyPtr l46 0) ∷ ‵ (fdies tyPtr l46) ∷ ‵ (froom tyPtr l45 0) ∷ ‵ (fdies tyPtr l45) ∷ ‵ (froom tyPtr l44 0) ∷ ‵ (fdies tyPtr l44) ∷ ‵ (froom tyPtr l43 0) ∷ ‵ (fdies tyPtr l43) ∷ ‵ (froom MMasterWords′.mir l42 0) ∷ ‵ (fdies MMasterWords′.mir l42) ∷ ‵ (froom tyPtr l41 0) ∷ ‵ (fdies tyPtr l41) ∷ ‵ (froom MAnswerWords′.mir l40 0) ∷ ‵ (fdies MAnswerWords′.mir l40) ∷ ‵ (froom (tyInt w64) l39 0) ∷ ‵ (fdies (tyInt w64) l39) ∷ ‵ (froom MAnswerWords′.mir l38 0) ∷ ‵ (fdies MAnswerWords′.mir l38) ∷ ‵ (froom tyBool l37 0) ∷ ‵ (fdies tyBool l37) ∷ ‵ (froom (sliceTy (tyRef erased mut (tyInt w8))) l36 0) ∷ ‵ (fdies (sliceTy (tyRef erased mut (tyInt w8))) l36) ∷ ‵ (froom (tyRef erased mut (tyInt w8)) l35 0) ∷ ‵ (fdies (tyRef erased mut (tyInt w8)) l35) ∷ ‵ (froom tyBool l34 0) ∷ ‵ (fdies tyBool l34) ∷ ‵ (froom MServo′.mir l33 0) ∷ ‵ (fdies MServo′.mir l33) ∷ ‵ (froom MServo′.mir l32 0) ∷ ‵ (fdies MServo′.mir l32) ∷ ‵ (froom tyBool l31 0) ∷ ‵ (fdies tyBool l31) ∷ ‵ (fat fullShare MTold′.mir l30 0 (vstruct (ofList ((parts-Told p-125 w-124 is-127) .pu0 ∷ (parts-Told p-125 w-124 is-127) .pu1 ∷ (parts-Told p-125 w-124 is-127) .pu2 ∷ (parts-Told p-125 w-124 is-127) .pu3 ∷ (parts-Told p-125 w-124 is-127) .pu4 ∷ (parts-Told p-125 w-124 is-127) .pu5 ∷ (parts-Told p-125 w-124 is-127) .pu6 ∷ (parts-Told p-125 w-124 is-127) .pu7 ∷ (parts-Told p-125 w-124 is-127) .pu8 ∷ (parts-Told p-125 w-124 is-127) .pu9 ∷ [])))) ∷ ‵ (fdies MTold′.mir l30) ∷ ‵ (froom MDelaysWords′.mir l29 0) ∷ ‵ (fdies MDelaysWords′.mir l29) ∷ ‵ (froom MHalvesWords′.mir l28 0) ∷ ‵ (fdies MHalvesWords′.mir l28) ∷ ‵ (froom MEmptied′.mir l27 0) ∷ ‵ (fdies MEmptied′.mir l27) ∷ ‵ (froom tyBool l26 0) ∷ ‵ (fdies tyBool l26) ∷ ‵ (froom MHeld′.mir l25 0) ∷ ‵ (fdies MHeld′.mir l25) ∷ ‵ (froom MMasterWords′.mir l24 0) ∷ ‵ (fdies MMasterWords′.mir l24) ∷ ‵ (froom (tyInt w64) l23 0) ∷ ‵ (fdies (tyInt w64) l23) ∷ ‵ (froom tyBool l22 0) ∷ ‵ (fdies tyBool l22) ∷ ‵ (froom MSeat′.mir l21 0) ∷ ‵ (fdies MSeat′.mir l21) ∷ ‵ (froom MLooked′.mir l20 0) ∷ ‵ (fdies MLooked′.mir l20) ∷ ‵ (froom MLooked′.mir l19 0) ∷ ‵ (fdies MLooked′.mir l19) ∷ ‵ (froom MLooked′.mir l18 0) ∷ ‵ (fdies MLooked′.mir l18) ∷ ‵ (froom MLooked′.mir l17 0) ∷ ‵ (fdies MLooked′.mir l17) ∷ ‵ (froom MLooked′.mir l16 0) ∷ ‵ (fdies MLooked′.mir l16) ∷ ‵ (froom (tyInt w32) l15 0) ∷ ‵ (fdies (tyInt w32) l15) ∷ ‵ (froom tyBool l14 0) ∷ ‵ (fdies tyBool l14) ∷ ‵ (froom MStateWords′.mir l13 0) ∷ ‵ (fdies MStateWords′.mir l13) ∷ ‵ (fat fullShare MSettingsWords′.mir l12 0 u-24) ∷ ‵ (fdies MSettingsWords′.mir l12) ∷ ‵ (froom MMessage′.mir l11 0) ∷ ‵ (fdies MMessage′.mir l11) ∷ ‵ (froom tyBool l10 0) ∷ ‵ (fdies tyBool l10) ∷ ‵ (froom MReceived′.mir l9 0) ∷ ‵ (fdies MReceived′.mir l9) ∷ ‵ (fat fullShare (tyRef (named 5) mut (pointee (R-AnswerWords .written))) l8 0 (vptr b8 o8)) ∷ ‵ (fdies (tyRef (named 5) mut (pointee (R-AnswerWords .written))) l8) ∷ ‵ (froom MStamp′.mir l7 0) ∷ ‵ (fdies MStamp′.mir l7) ∷ ‵ (froom (tyInt w64) l6 0) ∷ ‵ (fdies (tyInt w64) l6) ∷ ‵ (froom (sliceTy (tyRef (named 4) mut (tyInt w8))) l5 0) ∷ ‵ (fdies (sliceTy (tyRef (named 4) mut (tyInt w8))) l5) ∷ ‵ (fat fullShare (tyRef (named 3) mut (pointee (R-Watch .written))) l4 0 (vptr b4 o4)) ∷ ‵ (fdies (tyRef (named 3) mut (pointee (R-Watch .written))) l4) ∷ ‵ (froom (sliceTy (tyRef (named 2) mut (pointee (R-MasterWords .written)))) l3 0) ∷ ‵ (fdies (sliceTy (tyRef (named 2) mut (pointee (R-MasterWords .written)))) l3) ∷ ‵ (fat fullShare (tyRef (named 1) mut (pointee (R-Servo .written))) l2 0 (vptr b2 o2)) ∷ ‵ (fdies (tyRef (named 1) mut (pointee (R-Servo .written))) l2) ∷ ‵ (fat fullShare (tyRef (named 0) mut (pointee (R-UnitWords .written))) l1 0 (vptr b1 o1)) ∷ ‵ (fdies (tyRef (named 0) mut (pointee (R-UnitWords .written))) l1) ∷ ‵ (froom tyUnit l0 0) ∷ ‵ (fdies tyUnit l0) ∷ []) (runs C Λ En mir′.t-23 (atRet En Post))
+      from-23 : (zs-8 : List ℕ) (len-9 : length zs-8 ≡ length h5) (p-4 : SReceived.Received) (w-3 : Val) (e-6 : (p-4 ≡ receivedBy (readOf h5)) × (zs-8 ≡ h5)) (is-7 : Is R-Received p-4 (w-3 ∷ [])) (left1 : Holds (not (p-4 .barred))) (good : Holds (not (not (eqb (length h3) 5)))) (u-24 : Val) (g-25 : Is R-SettingsWords (h1 .settings) (u-24 ∷ [])) (u-28 : Val) (g-29 : Is R-StateWords (h1 .state) (u-28 ∷ [])) (left2 : Holds (not (p-4 .announces))) (u-118 : Val) (g-119 : Is R-HalvesWords (h1 .halves) (u-118 ∷ [])) (u-122 : Val) (g-123 : Is R-DelaysWords (h1 .delays) (u-122 ∷ [])) (p-125 : STold.Told) (w-124 : Val) (e-126 : p-125 ≡ heardTold (h1 .settings) (h1 .state) (h1 .halves) (h1 .delays) (p-4 .message) h6 h7) (is-127 : Is R-Told p-125 (w-124 ∷ [])) (left5 : Holds (not (p-125 .barred))) → Sq W (‵ (fobs γ1 (R-UnitWords .coded .code (with-UnitWords-1 h1 (p-125 .state)))) ∷ ‵ (fbor κ1 (Body (mem R-UnitWords) b1 o1 γ1)) ∷ ‵ (flft κ1 q1) ∷ ‵ (MutSlice (named 4) κ5 R-u8 .own (x5 zs-8) ((sliceVal (b5, o5) (length h5)) ∷ [])) ∷ ‵ (flft κ5 q5) ∷ ‵ (flft κ8 q8) ∷ ‵ (flft κ4 q4) ∷ ‵ (flft κ3 q3) ∷ ‵ (flft κ2 q2) ∷ ‵ (ftrue) ∷ ‵ (fobs γ8 (R-AnswerWords .coded .code h8)) ∷ ‵ (fbor κ8 (Body (mem R-AnswerWords) b8 o8 γ8)) ∷ ‵ (R-Stamp .own h7 (u7 ∷ [])) ∷ ‵ (R-u64 .own h6 (u6 ∷ [])) ∷ ‵ (fobs γ4 (R-Watch .coded .code h4)) ∷ ‵ (fbor κ4 (Body (mem R-Watch) b4 o4 γ4)) ∷ ‵ (fobs γ3 (codedHoleys R-MasterWords .code (heres R-MasterWords h3))) ∷ ‵ (fbor κ3 (Held R-MasterWords (length h3) b3 o3 γ3)) ∷ ‵ (at-slice R-MasterWords (x3 h3) ((sliceVal (b3, o3) (length h3)) ∷ [])) ∷ ‵ (fobs γ2 (R-Servo .coded .code h2)) ∷ ‵ (fbor κ2 (Body (mem R-Servo) b2 o2 γ2)) ∷ ‵ (froom (tyRef erased mut (pointee (R-u8x128 .written))) l65 0) ∷ ‵ (fdies (tyRef erased mut (pointee (R-u8x128 .written))) l65) ∷ ‵ (froom (tyRef erased mut (pointee (R-i32x128 .written))) l64 0) ∷ ‵ (fdies (tyRef erased mut (pointee (R-i32x128 .written))) l64) ∷ ‵ (froom (tyRef erased mut (pointee (R-i64x128 .written))) l63 0) ∷ ‵ (fdies (tyRef erased mut (pointee (R-i64x128 .written))) l63) ∷ ‵ (froom MHead′.mir l62 0) ∷ ‵ (fdies MHead′.mir l62) ∷ ‵ (froom MAnswerWords′.mir l61 0) ∷ ‵ (fdies MAnswerWords′.mir l61) ∷ ‵ (froom MAnswerWords′.mir l60 0) ∷ ‵ (fdies MAnswerWords′.mir l60) ∷ ‵ (froom (tyRef erased mut (pointee (R-u8x128 .written))) l59 0) ∷ ‵ (fdies (tyRef erased mut (pointee (R-u8x128 .written))) l59) ∷ ‵ (froom (tyRef erased mut (pointee (R-i32x128 .written))) l58 0) ∷ ‵ (fdies (tyRef erased mut (pointee (R-i32x128 .written))) l58) ∷ ‵ (froom (tyRef erased mut (pointee (R-i64x128 .written))) l57 0) ∷ ‵ (fdies (tyRef erased mut (pointee (R-i64x128 .written))) l57) ∷ ‵ (froom MHead′.mir l56 0) ∷ ‵ (fdies MHead′.mir l56) ∷ ‵ (froom tyPtr l55 0) ∷ ‵ (fdies tyPtr l55) ∷ ‵ (froom tyPtr l54 0) ∷ ‵ (fdies tyPtr l54) ∷ ‵ (froom (tyInt w64) l53 0) ∷ ‵ (fdies (tyInt w64) l53) ∷ ‵ (froom MAnswerWords′.mir l52 0) ∷ ‵ (fdies MAnswerWords′.mir l52) ∷ ‵ (froom tyBool l51 0) ∷ ‵ (fdies tyBool l51) ∷ ‵ (froom tyPtr l50 0) ∷ ‵ (fdies tyPtr l50) ∷ ‵ (froom tyPtr l49 0) ∷ ‵ (fdies tyPtr l49) ∷ ‵ (froom tyPtr l48 0) ∷ ‵ (fdies tyPtr l48) ∷ ‵ (froom tyPtr l47 0) ∷ ‵ (fdies tyPtr l47) ∷ ‵ (froom MMasterWords′.mir l46 0) ∷ ‵ (fdies MMasterWords′.mir l46) ∷ ‵ (froom tyPtr l45 0) ∷ ‵ (fdies tyPtr l45) ∷ ‵ (froom MAnswerWords′.mir l44 0) ∷ ‵ (fdies MAnswerWords′.mir l44) ∷ ‵ (froom (tyInt w64) l43 0) ∷ ‵ (fdies (tyInt w64) l43) ∷ ‵ (froom MAnswerWords′.mir l42 0) ∷ ‵ (fdies MAnswerWords′.mir l42) ∷ ‵ (froom tyBool l41 0) ∷ ‵ (fdies tyBool l41) ∷ ‵ (froom (sliceTy (tyRef erased mut (tyInt w8))) l40 0) ∷ ‵ (fdies (sliceTy (tyRef erased mut (tyInt w8))) l40) ∷ ‵ (froom (tyRef erased mut (tyInt w8)) l39 0) ∷ ‵ (fdies (tyRef erased mut (tyInt w8)) l39) ∷ ‵ (froom (tyInt w16) l38 0) ∷ ‵ (fdies (tyInt w16) l38) ∷ ‵ (froom (tyInt w8) l37 0) ∷ ‵ (fdies (tyInt w8) l37) ∷ ‵ (froom MServo′.mir l36 0) ∷ ‵ (fdies MServo′.mir l36) ∷ ‵ (froom tyBool l35 0) ∷ ‵ (fdies tyBool l35) ∷ ‵ (froom tyBool l34 0) ∷ ‵ (fdies tyBool l34) ∷ ‵ (froom MAccepted′.mir l33 0) ∷ ‵ (fdies MAccepted′.mir l33) ∷ ‵ (froom MServo′.mir l32 0) ∷ ‵ (fdies MServo′.mir l32) ∷ ‵ (froom tyBool l31 0) ∷ ‵ (fdies tyBool l31) ∷ ‵ (fat fullShare MTold′.mir l30 0 (vstruct (ofList ((parts-Told p-125 w-124 is-127) .pu0 ∷ (parts-Told p-125 w-124 is-127) .pu1 ∷ (parts-Told p-125 w-124 is-127) .pu2 ∷ (parts-Told p-125 w-124 is-127) .pu3 ∷ (parts-Told p-125 w-124 is-127) .pu4 ∷ (parts-Told p-125 w-124 is-127) .pu5 ∷ (parts-Told p-125 w-124 is-127) .pu6 ∷ (parts-Told p-125 w-124 is-127) .pu7 ∷ (parts-Told p-125 w-124 is-127) .pu8 ∷ (parts-Told p-125 w-124 is-127) .pu9 ∷ [])))) ∷ ‵ (fdies MTold′.mir l30) ∷ ‵ (froom MDelaysWords′.mir l29 0) ∷ ‵ (fdies MDelaysWords′.mir l29) ∷ ‵ (froom MHalvesWords′.mir l28 0) ∷ ‵ (fdies MHalvesWords′.mir l28) ∷ ‵ (froom MEmptied′.mir l27 0) ∷ ‵ (fdies MEmptied′.mir l27) ∷ ‵ (froom tyBool l26 0) ∷ ‵ (fdies tyBool l26) ∷ ‵ (froom MHeld′.mir l25 0) ∷ ‵ (fdies MHeld′.mir l25) ∷ ‵ (froom MMasterWords′.mir l24 0) ∷ ‵ (fdies MMasterWords′.mir l24) ∷ ‵ (froom (tyInt w64) l23 0) ∷ ‵ (fdies (tyInt w64) l23) ∷ ‵ (froom tyBool l22 0) ∷ ‵ (fdies tyBool l22) ∷ ‵ (froom MSeat′.mir l21 0) ∷ ‵ (fdies MSeat′.mir l21) ∷ ‵ (froom MLooked′.mir l20 0) ∷ ‵ (fdies MLooked′.mir l20) ∷ ‵ (froom MLooked′.mir l19 0) ∷ ‵ (fdies MLooked′.mir l19) ∷ ‵ (froom MLooked′.mir l18 0) ∷ ‵ (fdies MLooked′.mir l18) ∷ ‵ (froom MLooked′.mir l17 0) ∷ ‵ (fdies MLooked′.mir l17) ∷ ‵ (froom MLooked′.mir l16 0) ∷ ‵ (fdies MLooked′.mir l16) ∷ ‵ (froom (tyInt w32) l15 0) ∷ ‵ (fdies (tyInt w32) l15) ∷ ‵ (froom tyBool l14 0) ∷ ‵ (fdies tyBool l14) ∷ ‵ (froom MStateWords′.mir l13 0) ∷ ‵ (fdies MStateWords′.mir l13) ∷ ‵ (fat fullShare MSettingsWords′.mir l12 0 u-24) ∷ ‵ (fdies MSettingsWords′.mir l12) ∷ ‵ (froom MMessage′.mir l11 0) ∷ ‵ (fdies MMessage′.mir l11) ∷ ‵ (froom tyBool l10 0) ∷ ‵ (fdies tyBool l10) ∷ ‵ (froom MReceived′.mir l9 0) ∷ ‵ (fdies MReceived′.mir l9) ∷ ‵ (fat fullShare (tyRef (named 5) mut (pointee (R-AnswerWords .written))) l8 0 (vptr b8 o8)) ∷ ‵ (fdies (tyRef (named 5) mut (pointee (R-AnswerWords .written))) l8) ∷ ‵ (froom MStamp′.mir l7 0) ∷ ‵ (fdies MStamp′.mir l7) ∷ ‵ (froom (tyInt w64) l6 0) ∷ ‵ (fdies (tyInt w64) l6) ∷ ‵ (froom (sliceTy (tyRef (named 4) mut (tyInt w8))) l5 0) ∷ ‵ (fdies (sliceTy (tyRef (named 4) mut (tyInt w8))) l5) ∷ ‵ (fat fullShare (tyRef (named 3) mut (pointee (R-Watch .written))) l4 0 (vptr b4 o4)) ∷ ‵ (fdies (tyRef (named 3) mut (pointee (R-Watch .written))) l4) ∷ ‵ (froom (sliceTy (tyRef (named 2) mut (pointee (R-MasterWords .written)))) l3 0) ∷ ‵ (fdies (sliceTy (tyRef (named 2) mut (pointee (R-MasterWords .written)))) l3) ∷ ‵ (fat fullShare (tyRef (named 1) mut (pointee (R-Servo .written))) l2 0 (vptr b2 o2)) ∷ ‵ (fdies (tyRef (named 1) mut (pointee (R-Servo .written))) l2) ∷ ‵ (fat fullShare (tyRef (named 0) mut (pointee (R-UnitWords .written))) l1 0 (vptr b1 o1)) ∷ ‵ (fdies (tyRef (named 0) mut (pointee (R-UnitWords .written))) l1) ∷ ‵ (froom tyUnit l0 0) ∷ ‵ (fdies tyUnit l0) ∷ []) (runs C Λ En mir′.t-23 (atRet En Post))
       from-23 zs-8 len-9 p-4 w-3 e-6 is-7 left1 good u-24 g-25 u-28 g-29 left2 u-118 g-119 u-122 g-123 p-125 w-124 e-126 is-127 left5 =
           opens ! tt R-UnitWords {h = (with-UnitWords-1 h1 (p-125 .state))} b1 o1 (λ vs-136.
           move ! (1 ∷ []) $
@@ -2828,7 +2830,7 @@ module _ {M : Type 1} (𝓤 : URA M) (H : Heap 𝓤) (A : Atoms 𝓤) (W : Given
           move ! (1 ∷ []) $
           use1 W (‵ (fat fullShare MUnitWords′.mir b1 o1 (only vs-136))) (W .laws .raw-at fullShare MUnitWords′.mir b1 o1 (only vs-136)) $
           rewrite ! 0 (λ (u : Val). ‵ (fat fullShare MUnitWords′.mir b1 o1 u)) ((parts-UnitWords (with-UnitWords-1 h1 (p-125 .state)) (only vs-136) (one-UnitWords (with-UnitWords-1 h1 (p-125 .state)) vs-136 g-137)) .whole-is) refl $
-          assigns ! (of-opd ! (load ! (from ! (fld ! {τ = MHalvesWords′.mir} {d = off-Told-0} field-Told-0 (stop !))) (look-in ! 85 (sub ! {ν = name-of MTold′.mir} {τs = tys-of MTold′.mir} 0 {τ = MHalvesWords′.mir} {d = off-Told-0} field-Told-0 (whole !))))) (from ! (hop ! (look ! 143 refl) (fld ! {τ = MHalvesWords′.mir} {d = off-UnitWords-2} field-UnitWords-2 (stop !)))) (store-in ! 0 (sub ! {ν = name-of MUnitWords′.mir} {τs = tys-of MUnitWords′.mir} 2 {τ = MHalvesWords′.mir} {d = off-UnitWords-2} field-UnitWords-2 (whole !)) (lawful-HalvesWords 𝓤 H A W .typed (p-125 .halves) _ ((parts-Told p-125 w-124 is-127) .pg0) .0)) $
+          assigns ! (of-opd ! (load ! (from ! (fld ! {τ = MHalvesWords′.mir} {d = off-Told-0} field-Told-0 (stop !))) (look-in ! 93 (sub ! {ν = name-of MTold′.mir} {τs = tys-of MTold′.mir} 0 {τ = MHalvesWords′.mir} {d = off-Told-0} field-Told-0 (whole !))))) (from ! (hop ! (look ! 151 refl) (fld ! {τ = MHalvesWords′.mir} {d = off-UnitWords-2} field-UnitWords-2 (stop !)))) (store-in ! 0 (sub ! {ν = name-of MUnitWords′.mir} {τs = tys-of MUnitWords′.mir} 2 {τ = MHalvesWords′.mir} {d = off-UnitWords-2} field-UnitWords-2 (whole !)) (lawful-HalvesWords 𝓤 H A W .typed (p-125 .halves) _ ((parts-Told p-125 w-124 is-127) .pg0) .0)) $
           use1 W (‵ (cellAt fullShare (R-UnitWords .mir) ((vstruct (ofList (((parts-UnitWords (with-UnitWords-1 h1 (p-125 .state)) (only vs-136) (one-UnitWords (with-UnitWords-1 h1 (p-125 .state)) vs-136 g-137)) .pu0) ∷ ((parts-UnitWords (with-UnitWords-1 h1 (p-125 .state)) (only vs-136) (one-UnitWords (with-UnitWords-1 h1 (p-125 .state)) vs-136 g-137)) .pu1) ∷ ((parts-Told p-125 w-124 is-127) .pu0) ∷ ((parts-UnitWords (with-UnitWords-1 h1 (p-125 .state)) (only vs-136) (one-UnitWords (with-UnitWords-1 h1 (p-125 .state)) vs-136 g-137)) .pu3) ∷ []))) ∷ []) b1 o1)) (W .laws .at-raw fullShare MUnitWords′.mir b1 o1 (vstruct (ofList (((parts-UnitWords (with-UnitWords-1 h1 (p-125 .state)) (only vs-136) (one-UnitWords (with-UnitWords-1 h1 (p-125 .state)) vs-136 g-137)) .pu0) ∷ ((parts-UnitWords (with-UnitWords-1 h1 (p-125 .state)) (only vs-136) (one-UnitWords (with-UnitWords-1 h1 (p-125 .state)) vs-136 g-137)) .pu1) ∷ ((parts-Told p-125 w-124 is-127) .pu0) ∷ ((parts-UnitWords (with-UnitWords-1 h1 (p-125 .state)) (only vs-136) (one-UnitWords (with-UnitWords-1 h1 (p-125 .state)) vs-136 g-137)) .pu3) ∷ [])))) $
           move ! (1 ∷ []) $
           drop ! $
@@ -2837,7 +2839,7 @@ module _ {M : Type 1} (𝓤 : URA M) (H : Heap 𝓤) (A : Atoms 𝓤) (W : Given
           closes ! tt R-UnitWords (with-UnitWords-2 (with-UnitWords-1 h1 (p-125 .state)) (p-125 .halves)) ((vstruct (ofList (((parts-UnitWords (with-UnitWords-1 h1 (p-125 .state)) (only vs-136) (one-UnitWords (with-UnitWords-1 h1 (p-125 .state)) vs-136 g-137)) .pu0) ∷ ((parts-UnitWords (with-UnitWords-1 h1 (p-125 .state)) (only vs-136) (one-UnitWords (with-UnitWords-1 h1 (p-125 .state)) vs-136 g-137)) .pu1) ∷ ((parts-Told p-125 w-124 is-127) .pu0) ∷ ((parts-UnitWords (with-UnitWords-1 h1 (p-125 .state)) (only vs-136) (one-UnitWords (with-UnitWords-1 h1 (p-125 .state)) vs-136 g-137)) .pu3) ∷ []))) ∷ []) b1 o1 $
           from-24 zs-8 len-9 p-4 w-3 e-6 is-7 left1 good u-24 g-25 u-28 g-29 left2 u-118 g-119 u-122 g-123 p-125 w-124 e-126 is-127 left5))
 
-      from-22 : (zs-8 : List ℕ) (len-9 : length zs-8 ≡ length h5) (p-4 : SReceived.Received) (w-3 : Val) (e-6 : (p-4 ≡ receivedBy (readOf h5)) × (zs-8 ≡ h5)) (is-7 : Is R-Received p-4 (w-3 ∷ [])) (left1 : Holds (not (p-4 .barred))) (good : Holds (not (not (eqb (length h3) 5)))) (u-24 : Val) (g-25 : Is R-SettingsWords (h1 .settings) (u-24 ∷ [])) (u-28 : Val) (g-29 : Is R-StateWords (h1 .state) (u-28 ∷ [])) (left2 : Holds (not (p-4 .announces))) (u-118 : Val) (g-119 : Is R-HalvesWords (h1 .halves) (u-118 ∷ [])) (u-122 : Val) (g-123 : Is R-DelaysWords (h1 .delays) (u-122 ∷ [])) (p-125 : STold.Told) (w-124 : Val) (e-126 : p-125 ≡ heardTold (h1 .settings) (h1 .state) (h1 .halves) (h1 .delays) (p-4 .message) h6 h7) (is-127 : Is R-Told p-125 (w-124 ∷ [])) (left5 : Holds (not (p-125 .barred))) → Sq W (‵ (fobs γ1 (R-UnitWords .coded .code h1)) ∷ ‵ (fbor κ1 (Body (mem R-UnitWords) b1 o1 γ1)) ∷ ‵ (flft κ1 q1) ∷ ‵ (MutSlice (named 4) κ5 R-u8 .own (x5 zs-8) ((sliceVal (b5, o5) (length h5)) ∷ [])) ∷ ‵ (flft κ5 q5) ∷ ‵ (flft κ8 q8) ∷ ‵ (flft κ4 q4) ∷ ‵ (flft κ3 q3) ∷ ‵ (flft κ2 q2) ∷ ‵ (ftrue) ∷ ‵ (fobs γ8 (R-AnswerWords .coded .code h8)) ∷ ‵ (fbor κ8 (Body (mem R-AnswerWords) b8 o8 γ8)) ∷ ‵ (R-Stamp .own h7 (u7 ∷ [])) ∷ ‵ (R-u64 .own h6 (u6 ∷ [])) ∷ ‵ (fobs γ4 (R-Watch .coded .code h4)) ∷ ‵ (fbor κ4 (Body (mem R-Watch) b4 o4 γ4)) ∷ ‵ (fobs γ3 (codedHoleys R-MasterWords .code (heres R-MasterWords h3))) ∷ ‵ (fbor κ3 (Held R-MasterWords (length h3) b3 o3 γ3)) ∷ ‵ (at-slice R-MasterWords (x3 h3) ((sliceVal (b3, o3) (length h3)) ∷ [])) ∷ ‵ (fobs γ2 (R-Servo .coded .code h2)) ∷ ‵ (fbor κ2 (Body (mem R-Servo) b2 o2 γ2)) ∷ ‵ (froom (tyRef erased mut (pointee (R-u8x128 .written))) l61 0) ∷ ‵ (fdies (tyRef erased mut (pointee (R-u8x128 .written))) l61) ∷ ‵ (froom (tyRef erased mut (pointee (R-i32x128 .written))) l60 0) ∷ ‵ (fdies (tyRef erased mut (pointee (R-i32x128 .written))) l60) ∷ ‵ (froom (tyRef erased mut (pointee (R-i64x128 .written))) l59 0) ∷ ‵ (fdies (tyRef erased mut (pointee (R-i64x128 .written))) l59) ∷ ‵ (froom MHead′.mir l58 0) ∷ ‵ (fdies MHead′.mir l58) ∷ ‵ (froom MAnswerWords′.mir l57 0) ∷ ‵ (fdies MAnswerWords′.mir l57) ∷ ‵ (froom MAnswerWords′.mir l56 0) ∷ ‵ (fdies MAnswerWords′.mir l56) ∷ ‵ (froom (tyRef erased mut (pointee (R-u8x128 .written))) l55 0) ∷ ‵ (fdies (tyRef erased mut (pointee (R-u8x128 .written))) l55) ∷ ‵ (froom (tyRef erased mut (pointee (R-i32x128 .written))) l54 0) ∷ ‵ (fdies (tyRef erased mut (pointee (R-i32x128 .written))) l54) ∷ ‵ (froom (tyRef erased mut (pointee (R-i64x128 .written))) l53 0) ∷ ‵ (fdies (tyRef erased mut (pointee (R-i64x128 .written))) l53) ∷ ‵ (froom MHead′.mir l52 0) ∷ ‵ (fdies MHead′.mir l52) ∷ ‵ (froom tyPtr l51 0) ∷ ‵ (fdies tyPtr l51) ∷ ‵ (froom tyPtr l50 0) ∷ ‵ (fdies tyPtr l50) ∷ ‵ (froom (tyInt w64) l49 0) ∷ ‵ (fdies (tyInt w64) l49) ∷ ‵ (froom MAnswerWords′.mir l48 0) ∷ ‵ (fdies MAnswerWords′.mir l48) ∷ ‵ (froom tyBool l47 0) ∷ ‵ (fdies tyBool l47) ∷ ‵ (froom tyPtr l46 0) ∷ ‵ (fdies tyPtr l46) ∷ ‵ (froom tyPtr l45 0) ∷ ‵ (fdies tyPtr l45) ∷ ‵ (froom tyPtr l44 0) ∷ ‵ (fdies tyPtr l44) ∷ ‵ (froom tyPtr l43 0) ∷ ‵ (fdies tyPtr l43) ∷ ‵ (froom MMasterWords′.mir l42 0) ∷ ‵ (fdies MMasterWords′.mir l42) ∷ ‵ (froom tyPtr l41 0) ∷ ‵ (fdies tyPtr l41) ∷ ‵ (froom MAnswerWords′.mir l40 0) ∷ ‵ (fdies MAnswerWords′.mir l40) ∷ ‵ (froom (tyInt w64) l39 0) ∷ ‵ (fdies (tyInt w64) l39) ∷ ‵ (froom MAnswerWords′.mir l38 0) ∷ ‵ (fdies MAnswerWords′.mir l38) ∷ ‵ (froom tyBool l37 0) ∷ ‵ (fdies tyBool l37) ∷ ‵ (froom (sliceTy (tyRef erased mut (tyInt w8))) l36 0) ∷ ‵ (fdies (sliceTy (tyRef erased mut (tyInt w8))) l36) ∷ ‵ (froom (tyRef erased mut (tyInt w8)) l35 0) ∷ ‵ (fdies (tyRef erased mut (tyInt w8)) l35) ∷ ‵ (froom tyBool l34 0) ∷ ‵ (fdies tyBool l34) ∷ ‵ (froom MServo′.mir l33 0) ∷ ‵ (fdies MServo′.mir l33) ∷ ‵ (froom MServo′.mir l32 0) ∷ ‵ (fdies MServo′.mir l32) ∷ ‵ (froom tyBool l31 0) ∷ ‵ (fdies tyBool l31) ∷ ‵ (fat fullShare MTold′.mir l30 0 (vstruct (ofList ((parts-Told p-125 w-124 is-127) .pu0 ∷ (parts-Told p-125 w-124 is-127) .pu1 ∷ (parts-Told p-125 w-124 is-127) .pu2 ∷ (parts-Told p-125 w-124 is-127) .pu3 ∷ (parts-Told p-125 w-124 is-127) .pu4 ∷ (parts-Told p-125 w-124 is-127) .pu5 ∷ (parts-Told p-125 w-124 is-127) .pu6 ∷ (parts-Told p-125 w-124 is-127) .pu7 ∷ (parts-Told p-125 w-124 is-127) .pu8 ∷ (parts-Told p-125 w-124 is-127) .pu9 ∷ [])))) ∷ ‵ (fdies MTold′.mir l30) ∷ ‵ (froom MDelaysWords′.mir l29 0) ∷ ‵ (fdies MDelaysWords′.mir l29) ∷ ‵ (froom MHalvesWords′.mir l28 0) ∷ ‵ (fdies MHalvesWords′.mir l28) ∷ ‵ (froom MEmptied′.mir l27 0) ∷ ‵ (fdies MEmptied′.mir l27) ∷ ‵ (froom tyBool l26 0) ∷ ‵ (fdies tyBool l26) ∷ ‵ (froom MHeld′.mir l25 0) ∷ ‵ (fdies MHeld′.mir l25) ∷ ‵ (froom MMasterWords′.mir l24 0) ∷ ‵ (fdies MMasterWords′.mir l24) ∷ ‵ (froom (tyInt w64) l23 0) ∷ ‵ (fdies (tyInt w64) l23) ∷ ‵ (froom tyBool l22 0) ∷ ‵ (fdies tyBool l22) ∷ ‵ (froom MSeat′.mir l21 0) ∷ ‵ (fdies MSeat′.mir l21) ∷ ‵ (froom MLooked′.mir l20 0) ∷ ‵ (fdies MLooked′.mir l20) ∷ ‵ (froom MLooked′.mir l19 0) ∷ ‵ (fdies MLooked′.mir l19) ∷ ‵ (froom MLooked′.mir l18 0) ∷ ‵ (fdies MLooked′.mir l18) ∷ ‵ (froom MLooked′.mir l17 0) ∷ ‵ (fdies MLooked′.mir l17) ∷ ‵ (froom MLooked′.mir l16 0) ∷ ‵ (fdies MLooked′.mir l16) ∷ ‵ (froom (tyInt w32) l15 0) ∷ ‵ (fdies (tyInt w32) l15) ∷ ‵ (froom tyBool l14 0) ∷ ‵ (fdies tyBool l14) ∷ ‵ (froom MStateWords′.mir l13 0) ∷ ‵ (fdies MStateWords′.mir l13) ∷ ‵ (fat fullShare MSettingsWords′.mir l12 0 u-24) ∷ ‵ (fdies MSettingsWords′.mir l12) ∷ ‵ (froom MMessage′.mir l11 0) ∷ ‵ (fdies MMessage′.mir l11) ∷ ‵ (froom tyBool l10 0) ∷ ‵ (fdies tyBool l10) ∷ ‵ (froom MReceived′.mir l9 0) ∷ ‵ (fdies MReceived′.mir l9) ∷ ‵ (fat fullShare (tyRef (named 5) mut (pointee (R-AnswerWords .written))) l8 0 (vptr b8 o8)) ∷ ‵ (fdies (tyRef (named 5) mut (pointee (R-AnswerWords .written))) l8) ∷ ‵ (froom MStamp′.mir l7 0) ∷ ‵ (fdies MStamp′.mir l7) ∷ ‵ (froom (tyInt w64) l6 0) ∷ ‵ (fdies (tyInt w64) l6) ∷ ‵ (froom (sliceTy (tyRef (named 4) mut (tyInt w8))) l5 0) ∷ ‵ (fdies (sliceTy (tyRef (named 4) mut (tyInt w8))) l5) ∷ ‵ (fat fullShare (tyRef (named 3) mut (pointee (R-Watch .written))) l4 0 (vptr b4 o4)) ∷ ‵ (fdies (tyRef (named 3) mut (pointee (R-Watch .written))) l4) ∷ ‵ (froom (sliceTy (tyRef (named 2) mut (pointee (R-MasterWords .written)))) l3 0) ∷ ‵ (fdies (sliceTy (tyRef (named 2) mut (pointee (R-MasterWords .written)))) l3) ∷ ‵ (fat fullShare (tyRef (named 1) mut (pointee (R-Servo .written))) l2 0 (vptr b2 o2)) ∷ ‵ (fdies (tyRef (named 1) mut (pointee (R-Servo .written))) l2) ∷ ‵ (fat fullShare (tyRef (named 0) mut (pointee (R-UnitWords .written))) l1 0 (vptr b1 o1)) ∷ ‵ (fdies (tyRef (named 0) mut (pointee (R-UnitWords .written))) l1) ∷ ‵ (froom tyUnit l0 0) ∷ ‵ (fdies tyUnit l0) ∷ []) (runs C Λ En mir′.t-22 (atRet En Post))
+      from-22 : (zs-8 : List ℕ) (len-9 : length zs-8 ≡ length h5) (p-4 : SReceived.Received) (w-3 : Val) (e-6 : (p-4 ≡ receivedBy (readOf h5)) × (zs-8 ≡ h5)) (is-7 : Is R-Received p-4 (w-3 ∷ [])) (left1 : Holds (not (p-4 .barred))) (good : Holds (not (not (eqb (length h3) 5)))) (u-24 : Val) (g-25 : Is R-SettingsWords (h1 .settings) (u-24 ∷ [])) (u-28 : Val) (g-29 : Is R-StateWords (h1 .state) (u-28 ∷ [])) (left2 : Holds (not (p-4 .announces))) (u-118 : Val) (g-119 : Is R-HalvesWords (h1 .halves) (u-118 ∷ [])) (u-122 : Val) (g-123 : Is R-DelaysWords (h1 .delays) (u-122 ∷ [])) (p-125 : STold.Told) (w-124 : Val) (e-126 : p-125 ≡ heardTold (h1 .settings) (h1 .state) (h1 .halves) (h1 .delays) (p-4 .message) h6 h7) (is-127 : Is R-Told p-125 (w-124 ∷ [])) (left5 : Holds (not (p-125 .barred))) → Sq W (‵ (fobs γ1 (R-UnitWords .coded .code h1)) ∷ ‵ (fbor κ1 (Body (mem R-UnitWords) b1 o1 γ1)) ∷ ‵ (flft κ1 q1) ∷ ‵ (MutSlice (named 4) κ5 R-u8 .own (x5 zs-8) ((sliceVal (b5, o5) (length h5)) ∷ [])) ∷ ‵ (flft κ5 q5) ∷ ‵ (flft κ8 q8) ∷ ‵ (flft κ4 q4) ∷ ‵ (flft κ3 q3) ∷ ‵ (flft κ2 q2) ∷ ‵ (ftrue) ∷ ‵ (fobs γ8 (R-AnswerWords .coded .code h8)) ∷ ‵ (fbor κ8 (Body (mem R-AnswerWords) b8 o8 γ8)) ∷ ‵ (R-Stamp .own h7 (u7 ∷ [])) ∷ ‵ (R-u64 .own h6 (u6 ∷ [])) ∷ ‵ (fobs γ4 (R-Watch .coded .code h4)) ∷ ‵ (fbor κ4 (Body (mem R-Watch) b4 o4 γ4)) ∷ ‵ (fobs γ3 (codedHoleys R-MasterWords .code (heres R-MasterWords h3))) ∷ ‵ (fbor κ3 (Held R-MasterWords (length h3) b3 o3 γ3)) ∷ ‵ (at-slice R-MasterWords (x3 h3) ((sliceVal (b3, o3) (length h3)) ∷ [])) ∷ ‵ (fobs γ2 (R-Servo .coded .code h2)) ∷ ‵ (fbor κ2 (Body (mem R-Servo) b2 o2 γ2)) ∷ ‵ (froom (tyRef erased mut (pointee (R-u8x128 .written))) l65 0) ∷ ‵ (fdies (tyRef erased mut (pointee (R-u8x128 .written))) l65) ∷ ‵ (froom (tyRef erased mut (pointee (R-i32x128 .written))) l64 0) ∷ ‵ (fdies (tyRef erased mut (pointee (R-i32x128 .written))) l64) ∷ ‵ (froom (tyRef erased mut (pointee (R-i64x128 .written))) l63 0) ∷ ‵ (fdies (tyRef erased mut (pointee (R-i64x128 .written))) l63) ∷ ‵ (froom MHead′.mir l62 0) ∷ ‵ (fdies MHead′.mir l62) ∷ ‵ (froom MAnswerWords′.mir l61 0) ∷ ‵ (fdies MAnswerWords′.mir l61) ∷ ‵ (froom MAnswerWords′.mir l60 0) ∷ ‵ (fdies MAnswerWords′.mir l60) ∷ ‵ (froom (tyRef erased mut (pointee (R-u8x128 .written))) l59 0) ∷ ‵ (fdies (tyRef erased mut (pointee (R-u8x128 .written))) l59) ∷ ‵ (froom (tyRef erased mut (pointee (R-i32x128 .written))) l58 0) ∷ ‵ (fdies (tyRef erased mut (pointee (R-i32x128 .written))) l58) ∷ ‵ (froom (tyRef erased mut (pointee (R-i64x128 .written))) l57 0) ∷ ‵ (fdies (tyRef erased mut (pointee (R-i64x128 .written))) l57) ∷ ‵ (froom MHead′.mir l56 0) ∷ ‵ (fdies MHead′.mir l56) ∷ ‵ (froom tyPtr l55 0) ∷ ‵ (fdies tyPtr l55) ∷ ‵ (froom tyPtr l54 0) ∷ ‵ (fdies tyPtr l54) ∷ ‵ (froom (tyInt w64) l53 0) ∷ ‵ (fdies (tyInt w64) l53) ∷ ‵ (froom MAnswerWords′.mir l52 0) ∷ ‵ (fdies MAnswerWords′.mir l52) ∷ ‵ (froom tyBool l51 0) ∷ ‵ (fdies tyBool l51) ∷ ‵ (froom tyPtr l50 0) ∷ ‵ (fdies tyPtr l50) ∷ ‵ (froom tyPtr l49 0) ∷ ‵ (fdies tyPtr l49) ∷ ‵ (froom tyPtr l48 0) ∷ ‵ (fdies tyPtr l48) ∷ ‵ (froom tyPtr l47 0) ∷ ‵ (fdies tyPtr l47) ∷ ‵ (froom MMasterWords′.mir l46 0) ∷ ‵ (fdies MMasterWords′.mir l46) ∷ ‵ (froom tyPtr l45 0) ∷ ‵ (fdies tyPtr l45) ∷ ‵ (froom MAnswerWords′.mir l44 0) ∷ ‵ (fdies MAnswerWords′.mir l44) ∷ ‵ (froom (tyInt w64) l43 0) ∷ ‵ (fdies (tyInt w64) l43) ∷ ‵ (froom MAnswerWords′.mir l42 0) ∷ ‵ (fdies MAnswerWords′.mir l42) ∷ ‵ (froom tyBool l41 0) ∷ ‵ (fdies tyBool l41) ∷ ‵ (froom (sliceTy (tyRef erased mut (tyInt w8))) l40 0) ∷ ‵ (fdies (sliceTy (tyRef erased mut (tyInt w8))) l40) ∷ ‵ (froom (tyRef erased mut (tyInt w8)) l39 0) ∷ ‵ (fdies (tyRef erased mut (tyInt w8)) l39) ∷ ‵ (froom (tyInt w16) l38 0) ∷ ‵ (fdies (tyInt w16) l38) ∷ ‵ (froom (tyInt w8) l37 0) ∷ ‵ (fdies (tyInt w8) l37) ∷ ‵ (froom MServo′.mir l36 0) ∷ ‵ (fdies MServo′.mir l36) ∷ ‵ (froom tyBool l35 0) ∷ ‵ (fdies tyBool l35) ∷ ‵ (froom tyBool l34 0) ∷ ‵ (fdies tyBool l34) ∷ ‵ (froom MAccepted′.mir l33 0) ∷ ‵ (fdies MAccepted′.mir l33) ∷ ‵ (froom MServo′.mir l32 0) ∷ ‵ (fdies MServo′.mir l32) ∷ ‵ (froom tyBool l31 0) ∷ ‵ (fdies tyBool l31) ∷ ‵ (fat fullShare MTold′.mir l30 0 (vstruct (ofList ((parts-Told p-125 w-124 is-127) .pu0 ∷ (parts-Told p-125 w-124 is-127) .pu1 ∷ (parts-Told p-125 w-124 is-127) .pu2 ∷ (parts-Told p-125 w-124 is-127) .pu3 ∷ (parts-Told p-125 w-124 is-127) .pu4 ∷ (parts-Told p-125 w-124 is-127) .pu5 ∷ (parts-Told p-125 w-124 is-127) .pu6 ∷ (parts-Told p-125 w-124 is-127) .pu7 ∷ (parts-Told p-125 w-124 is-127) .pu8 ∷ (parts-Told p-125 w-124 is-127) .pu9 ∷ [])))) ∷ ‵ (fdies MTold′.mir l30) ∷ ‵ (froom MDelaysWords′.mir l29 0) ∷ ‵ (fdies MDelaysWords′.mir l29) ∷ ‵ (froom MHalvesWords′.mir l28 0) ∷ ‵ (fdies MHalvesWords′.mir l28) ∷ ‵ (froom MEmptied′.mir l27 0) ∷ ‵ (fdies MEmptied′.mir l27) ∷ ‵ (froom tyBool l26 0) ∷ ‵ (fdies tyBool l26) ∷ ‵ (froom MHeld′.mir l25 0) ∷ ‵ (fdies MHeld′.mir l25) ∷ ‵ (froom MMasterWords′.mir l24 0) ∷ ‵ (fdies MMasterWords′.mir l24) ∷ ‵ (froom (tyInt w64) l23 0) ∷ ‵ (fdies (tyInt w64) l23) ∷ ‵ (froom tyBool l22 0) ∷ ‵ (fdies tyBool l22) ∷ ‵ (froom MSeat′.mir l21 0) ∷ ‵ (fdies MSeat′.mir l21) ∷ ‵ (froom MLooked′.mir l20 0) ∷ ‵ (fdies MLooked′.mir l20) ∷ ‵ (froom MLooked′.mir l19 0) ∷ ‵ (fdies MLooked′.mir l19) ∷ ‵ (froom MLooked′.mir l18 0) ∷ ‵ (fdies MLooked′.mir l18) ∷ ‵ (froom MLooked′.mir l17 0) ∷ ‵ (fdies MLooked′.mir l17) ∷ ‵ (froom MLooked′.mir l16 0) ∷ ‵ (fdies MLooked′.mir l16) ∷ ‵ (froom (tyInt w32) l15 0) ∷ ‵ (fdies (tyInt w32) l15) ∷ ‵ (froom tyBool l14 0) ∷ ‵ (fdies tyBool l14) ∷ ‵ (froom MStateWords′.mir l13 0) ∷ ‵ (fdies MStateWords′.mir l13) ∷ ‵ (fat fullShare MSettingsWords′.mir l12 0 u-24) ∷ ‵ (fdies MSettingsWords′.mir l12) ∷ ‵ (froom MMessage′.mir l11 0) ∷ ‵ (fdies MMessage′.mir l11) ∷ ‵ (froom tyBool l10 0) ∷ ‵ (fdies tyBool l10) ∷ ‵ (froom MReceived′.mir l9 0) ∷ ‵ (fdies MReceived′.mir l9) ∷ ‵ (fat fullShare (tyRef (named 5) mut (pointee (R-AnswerWords .written))) l8 0 (vptr b8 o8)) ∷ ‵ (fdies (tyRef (named 5) mut (pointee (R-AnswerWords .written))) l8) ∷ ‵ (froom MStamp′.mir l7 0) ∷ ‵ (fdies MStamp′.mir l7) ∷ ‵ (froom (tyInt w64) l6 0) ∷ ‵ (fdies (tyInt w64) l6) ∷ ‵ (froom (sliceTy (tyRef (named 4) mut (tyInt w8))) l5 0) ∷ ‵ (fdies (sliceTy (tyRef (named 4) mut (tyInt w8))) l5) ∷ ‵ (fat fullShare (tyRef (named 3) mut (pointee (R-Watch .written))) l4 0 (vptr b4 o4)) ∷ ‵ (fdies (tyRef (named 3) mut (pointee (R-Watch .written))) l4) ∷ ‵ (froom (sliceTy (tyRef (named 2) mut (pointee (R-MasterWords .written)))) l3 0) ∷ ‵ (fdies (sliceTy (tyRef (named 2) mut (pointee (R-MasterWords .written)))) l3) ∷ ‵ (fat fullShare (tyRef (named 1) mut (pointee (R-Servo .written))) l2 0 (vptr b2 o2)) ∷ ‵ (fdies (tyRef (named 1) mut (pointee (R-Servo .written))) l2) ∷ ‵ (fat fullShare (tyRef (named 0) mut (pointee (R-UnitWords .written))) l1 0 (vptr b1 o1)) ∷ ‵ (fdies (tyRef (named 0) mut (pointee (R-UnitWords .written))) l1) ∷ ‵ (froom tyUnit l0 0) ∷ ‵ (fdies tyUnit l0) ∷ []) (runs C Λ En mir′.t-22 (atRet En Post))
       from-22 zs-8 len-9 p-4 w-3 e-6 is-7 left1 good u-24 g-25 u-28 g-29 left2 u-118 g-119 u-122 g-123 p-125 w-124 e-126 is-127 left5 =
           opens ! tt R-UnitWords {h = h1} b1 o1 (λ vs-134.
           move ! (1 ∷ []) $
@@ -2847,7 +2849,7 @@ module _ {M : Type 1} (𝓤 : URA M) (H : Heap 𝓤) (A : Atoms 𝓤) (W : Given
           move ! (1 ∷ []) $
           use1 W (‵ (fat fullShare MUnitWords′.mir b1 o1 (only vs-134))) (W .laws .raw-at fullShare MUnitWords′.mir b1 o1 (only vs-134)) $
           rewrite ! 0 (λ (u : Val). ‵ (fat fullShare MUnitWords′.mir b1 o1 u)) ((parts-UnitWords h1 (only vs-134) (one-UnitWords h1 vs-134 g-135)) .whole-is) refl $
-          assigns ! (of-opd ! (load ! (from ! (fld ! {τ = MStateWords′.mir} {d = off-Told-2} field-Told-2 (stop !))) (look-in ! 85 (sub ! {ν = name-of MTold′.mir} {τs = tys-of MTold′.mir} 2 {τ = MStateWords′.mir} {d = off-Told-2} field-Told-2 (whole !))))) (from ! (hop ! (look ! 143 refl) (fld ! {τ = MStateWords′.mir} {d = off-UnitWords-1} field-UnitWords-1 (stop !)))) (store-in ! 0 (sub ! {ν = name-of MUnitWords′.mir} {τs = tys-of MUnitWords′.mir} 1 {τ = MStateWords′.mir} {d = off-UnitWords-1} field-UnitWords-1 (whole !)) (lawful-StateWords 𝓤 H A W .typed (p-125 .state) _ ((parts-Told p-125 w-124 is-127) .pg2) .0)) $
+          assigns ! (of-opd ! (load ! (from ! (fld ! {τ = MStateWords′.mir} {d = off-Told-2} field-Told-2 (stop !))) (look-in ! 93 (sub ! {ν = name-of MTold′.mir} {τs = tys-of MTold′.mir} 2 {τ = MStateWords′.mir} {d = off-Told-2} field-Told-2 (whole !))))) (from ! (hop ! (look ! 151 refl) (fld ! {τ = MStateWords′.mir} {d = off-UnitWords-1} field-UnitWords-1 (stop !)))) (store-in ! 0 (sub ! {ν = name-of MUnitWords′.mir} {τs = tys-of MUnitWords′.mir} 1 {τ = MStateWords′.mir} {d = off-UnitWords-1} field-UnitWords-1 (whole !)) (lawful-StateWords 𝓤 H A W .typed (p-125 .state) _ ((parts-Told p-125 w-124 is-127) .pg2) .0)) $
           use1 W (‵ (cellAt fullShare (R-UnitWords .mir) ((vstruct (ofList (((parts-UnitWords h1 (only vs-134) (one-UnitWords h1 vs-134 g-135)) .pu0) ∷ ((parts-Told p-125 w-124 is-127) .pu2) ∷ ((parts-UnitWords h1 (only vs-134) (one-UnitWords h1 vs-134 g-135)) .pu2) ∷ ((parts-UnitWords h1 (only vs-134) (one-UnitWords h1 vs-134 g-135)) .pu3) ∷ []))) ∷ []) b1 o1)) (W .laws .at-raw fullShare MUnitWords′.mir b1 o1 (vstruct (ofList (((parts-UnitWords h1 (only vs-134) (one-UnitWords h1 vs-134 g-135)) .pu0) ∷ ((parts-Told p-125 w-124 is-127) .pu2) ∷ ((parts-UnitWords h1 (only vs-134) (one-UnitWords h1 vs-134 g-135)) .pu2) ∷ ((parts-UnitWords h1 (only vs-134) (one-UnitWords h1 vs-134 g-135)) .pu3) ∷ [])))) $
           move ! (1 ∷ []) $
           drop ! $
@@ -2856,22 +2858,22 @@ module _ {M : Type 1} (𝓤 : URA M) (H : Heap 𝓤) (A : Atoms 𝓤) (W : Given
           closes ! tt R-UnitWords (with-UnitWords-1 h1 (p-125 .state)) ((vstruct (ofList (((parts-UnitWords h1 (only vs-134) (one-UnitWords h1 vs-134 g-135)) .pu0) ∷ ((parts-Told p-125 w-124 is-127) .pu2) ∷ ((parts-UnitWords h1 (only vs-134) (one-UnitWords h1 vs-134 g-135)) .pu2) ∷ ((parts-UnitWords h1 (only vs-134) (one-UnitWords h1 vs-134 g-135)) .pu3) ∷ []))) ∷ []) b1 o1 $
           from-23 zs-8 len-9 p-4 w-3 e-6 is-7 left1 good u-24 g-25 u-28 g-29 left2 u-118 g-119 u-122 g-123 p-125 w-124 e-126 is-127 left5))
 
-      from-19 : (zs-8 : List ℕ) (len-9 : length zs-8 ≡ length h5) (p-4 : SReceived.Received) (w-3 : Val) (e-6 : (p-4 ≡ receivedBy (readOf h5)) × (zs-8 ≡ h5)) (is-7 : Is R-Received p-4 (w-3 ∷ [])) (left1 : Holds (not (p-4 .barred))) (good : Holds (not (not (eqb (length h3) 5)))) (u-24 : Val) (g-25 : Is R-SettingsWords (h1 .settings) (u-24 ∷ [])) (u-28 : Val) (g-29 : Is R-StateWords (h1 .state) (u-28 ∷ [])) (left2 : Holds (not (p-4 .announces))) (u-118 : Val) (g-119 : Is R-HalvesWords (h1 .halves) (u-118 ∷ [])) (u-122 : Val) (g-123 : Is R-DelaysWords (h1 .delays) (u-122 ∷ [])) (p-125 : STold.Told) (w-124 : Val) (e-126 : p-125 ≡ heardTold (h1 .settings) (h1 .state) (h1 .halves) (h1 .delays) (p-4 .message) h6 h7) (is-127 : Is R-Told p-125 (w-124 ∷ [])) → Sq W (‵ (fobs γ1 (R-UnitWords .coded .code h1)) ∷ ‵ (fbor κ1 (Body (mem R-UnitWords) b1 o1 γ1)) ∷ ‵ (flft κ1 q1) ∷ ‵ (MutSlice (named 4) κ5 R-u8 .own (x5 zs-8) ((sliceVal (b5, o5) (length h5)) ∷ [])) ∷ ‵ (flft κ5 q5) ∷ ‵ (flft κ8 q8) ∷ ‵ (flft κ4 q4) ∷ ‵ (flft κ3 q3) ∷ ‵ (flft κ2 q2) ∷ ‵ (ftrue) ∷ ‵ (fobs γ8 (R-AnswerWords .coded .code h8)) ∷ ‵ (fbor κ8 (Body (mem R-AnswerWords) b8 o8 γ8)) ∷ ‵ (R-Stamp .own h7 (u7 ∷ [])) ∷ ‵ (R-u64 .own h6 (u6 ∷ [])) ∷ ‵ (fobs γ4 (R-Watch .coded .code h4)) ∷ ‵ (fbor κ4 (Body (mem R-Watch) b4 o4 γ4)) ∷ ‵ (fobs γ3 (codedHoleys R-MasterWords .code (heres R-MasterWords h3))) ∷ ‵ (fbor κ3 (Held R-MasterWords (length h3) b3 o3 γ3)) ∷ ‵ (at-slice R-MasterWords (x3 h3) ((sliceVal (b3, o3) (length h3)) ∷ [])) ∷ ‵ (fobs γ2 (R-Servo .coded .code h2)) ∷ ‵ (fbor κ2 (Body (mem R-Servo) b2 o2 γ2)) ∷ ‵ (froom (tyRef erased mut (pointee (R-u8x128 .written))) l61 0) ∷ ‵ (fdies (tyRef erased mut (pointee (R-u8x128 .written))) l61) ∷ ‵ (froom (tyRef erased mut (pointee (R-i32x128 .written))) l60 0) ∷ ‵ (fdies (tyRef erased mut (pointee (R-i32x128 .written))) l60) ∷ ‵ (froom (tyRef erased mut (pointee (R-i64x128 .written))) l59 0) ∷ ‵ (fdies (tyRef erased mut (pointee (R-i64x128 .written))) l59) ∷ ‵ (froom MHead′.mir l58 0) ∷ ‵ (fdies MHead′.mir l58) ∷ ‵ (froom MAnswerWords′.mir l57 0) ∷ ‵ (fdies MAnswerWords′.mir l57) ∷ ‵ (froom MAnswerWords′.mir l56 0) ∷ ‵ (fdies MAnswerWords′.mir l56) ∷ ‵ (froom (tyRef erased mut (pointee (R-u8x128 .written))) l55 0) ∷ ‵ (fdies (tyRef erased mut (pointee (R-u8x128 .written))) l55) ∷ ‵ (froom (tyRef erased mut (pointee (R-i32x128 .written))) l54 0) ∷ ‵ (fdies (tyRef erased mut (pointee (R-i32x128 .written))) l54) ∷ ‵ (froom (tyRef erased mut (pointee (R-i64x128 .written))) l53 0) ∷ ‵ (fdies (tyRef erased mut (pointee (R-i64x128 .written))) l53) ∷ ‵ (froom MHead′.mir l52 0) ∷ ‵ (fdies MHead′.mir l52) ∷ ‵ (froom tyPtr l51 0) ∷ ‵ (fdies tyPtr l51) ∷ ‵ (froom tyPtr l50 0) ∷ ‵ (fdies tyPtr l50) ∷ ‵ (froom (tyInt w64) l49 0) ∷ ‵ (fdies (tyInt w64) l49) ∷ ‵ (froom MAnswerWords′.mir l48 0) ∷ ‵ (fdies MAnswerWords′.mir l48) ∷ ‵ (froom tyBool l47 0) ∷ ‵ (fdies tyBool l47) ∷ ‵ (froom tyPtr l46 0) ∷ ‵ (fdies tyPtr l46) ∷ ‵ (froom tyPtr l45 0) ∷ ‵ (fdies tyPtr l45) ∷ ‵ (froom tyPtr l44 0) ∷ ‵ (fdies tyPtr l44) ∷ ‵ (froom tyPtr l43 0) ∷ ‵ (fdies tyPtr l43) ∷ ‵ (froom MMasterWords′.mir l42 0) ∷ ‵ (fdies MMasterWords′.mir l42) ∷ ‵ (froom tyPtr l41 0) ∷ ‵ (fdies tyPtr l41) ∷ ‵ (froom MAnswerWords′.mir l40 0) ∷ ‵ (fdies MAnswerWords′.mir l40) ∷ ‵ (froom (tyInt w64) l39 0) ∷ ‵ (fdies (tyInt w64) l39) ∷ ‵ (froom MAnswerWords′.mir l38 0) ∷ ‵ (fdies MAnswerWords′.mir l38) ∷ ‵ (froom tyBool l37 0) ∷ ‵ (fdies tyBool l37) ∷ ‵ (froom (sliceTy (tyRef erased mut (tyInt w8))) l36 0) ∷ ‵ (fdies (sliceTy (tyRef erased mut (tyInt w8))) l36) ∷ ‵ (froom (tyRef erased mut (tyInt w8)) l35 0) ∷ ‵ (fdies (tyRef erased mut (tyInt w8)) l35) ∷ ‵ (froom tyBool l34 0) ∷ ‵ (fdies tyBool l34) ∷ ‵ (froom MServo′.mir l33 0) ∷ ‵ (fdies MServo′.mir l33) ∷ ‵ (froom MServo′.mir l32 0) ∷ ‵ (fdies MServo′.mir l32) ∷ ‵ (froom tyBool l31 0) ∷ ‵ (fdies tyBool l31) ∷ ‵ (fat fullShare MTold′.mir l30 0 w-124) ∷ ‵ (fdies MTold′.mir l30) ∷ ‵ (froom MDelaysWords′.mir l29 0) ∷ ‵ (fdies MDelaysWords′.mir l29) ∷ ‵ (froom MHalvesWords′.mir l28 0) ∷ ‵ (fdies MHalvesWords′.mir l28) ∷ ‵ (froom MEmptied′.mir l27 0) ∷ ‵ (fdies MEmptied′.mir l27) ∷ ‵ (froom tyBool l26 0) ∷ ‵ (fdies tyBool l26) ∷ ‵ (froom MHeld′.mir l25 0) ∷ ‵ (fdies MHeld′.mir l25) ∷ ‵ (froom MMasterWords′.mir l24 0) ∷ ‵ (fdies MMasterWords′.mir l24) ∷ ‵ (froom (tyInt w64) l23 0) ∷ ‵ (fdies (tyInt w64) l23) ∷ ‵ (froom tyBool l22 0) ∷ ‵ (fdies tyBool l22) ∷ ‵ (froom MSeat′.mir l21 0) ∷ ‵ (fdies MSeat′.mir l21) ∷ ‵ (froom MLooked′.mir l20 0) ∷ ‵ (fdies MLooked′.mir l20) ∷ ‵ (froom MLooked′.mir l19 0) ∷ ‵ (fdies MLooked′.mir l19) ∷ ‵ (froom MLooked′.mir l18 0) ∷ ‵ (fdies MLooked′.mir l18) ∷ ‵ (froom MLooked′.mir l17 0) ∷ ‵ (fdies MLooked′.mir l17) ∷ ‵ (froom MLooked′.mir l16 0) ∷ ‵ (fdies MLooked′.mir l16) ∷ ‵ (froom (tyInt w32) l15 0) ∷ ‵ (fdies (tyInt w32) l15) ∷ ‵ (froom tyBool l14 0) ∷ ‵ (fdies tyBool l14) ∷ ‵ (froom MStateWords′.mir l13 0) ∷ ‵ (fdies MStateWords′.mir l13) ∷ ‵ (fat fullShare MSettingsWords′.mir l12 0 u-24) ∷ ‵ (fdies MSettingsWords′.mir l12) ∷ ‵ (froom MMessage′.mir l11 0) ∷ ‵ (fdies MMessage′.mir l11) ∷ ‵ (froom tyBool l10 0) ∷ ‵ (fdies tyBool l10) ∷ ‵ (froom MReceived′.mir l9 0) ∷ ‵ (fdies MReceived′.mir l9) ∷ ‵ (fat fullShare (tyRef (named 5) mut (pointee (R-AnswerWords .written))) l8 0 (vptr b8 o8)) ∷ ‵ (fdies (tyRef (named 5) mut (pointee (R-AnswerWords .written))) l8) ∷ ‵ (froom MStamp′.mir l7 0) ∷ ‵ (fdies MStamp′.mir l7) ∷ ‵ (froom (tyInt w64) l6 0) ∷ ‵ (fdies (tyInt w64) l6) ∷ ‵ (froom (sliceTy (tyRef (named 4) mut (tyInt w8))) l5 0) ∷ ‵ (fdies (sliceTy (tyRef (named 4) mut (tyInt w8))) l5) ∷ ‵ (fat fullShare (tyRef (named 3) mut (pointee (R-Watch .written))) l4 0 (vptr b4 o4)) ∷ ‵ (fdies (tyRef (named 3) mut (pointee (R-Watch .written))) l4) ∷ ‵ (froom (sliceTy (tyRef (named 2) mut (pointee (R-MasterWords .written)))) l3 0) ∷ ‵ (fdies (sliceTy (tyRef (named 2) mut (pointee (R-MasterWords .written)))) l3) ∷ ‵ (fat fullShare (tyRef (named 1) mut (pointee (R-Servo .written))) l2 0 (vptr b2 o2)) ∷ ‵ (fdies (tyRef (named 1) mut (pointee (R-Servo .written))) l2) ∷ ‵ (fat fullShare (tyRef (named 0) mut (pointee (R-UnitWords .written))) l1 0 (vptr b1 o1)) ∷ ‵ (fdies (tyRef (named 0) mut (pointee (R-UnitWords .written))) l1) ∷ ‵ (froom tyUnit l0 0) ∷ ‵ (fdies tyUnit l0) ∷ []) (runs C Λ En mir′.t-19 (atRet En Post))
+      from-19 : (zs-8 : List ℕ) (len-9 : length zs-8 ≡ length h5) (p-4 : SReceived.Received) (w-3 : Val) (e-6 : (p-4 ≡ receivedBy (readOf h5)) × (zs-8 ≡ h5)) (is-7 : Is R-Received p-4 (w-3 ∷ [])) (left1 : Holds (not (p-4 .barred))) (good : Holds (not (not (eqb (length h3) 5)))) (u-24 : Val) (g-25 : Is R-SettingsWords (h1 .settings) (u-24 ∷ [])) (u-28 : Val) (g-29 : Is R-StateWords (h1 .state) (u-28 ∷ [])) (left2 : Holds (not (p-4 .announces))) (u-118 : Val) (g-119 : Is R-HalvesWords (h1 .halves) (u-118 ∷ [])) (u-122 : Val) (g-123 : Is R-DelaysWords (h1 .delays) (u-122 ∷ [])) (p-125 : STold.Told) (w-124 : Val) (e-126 : p-125 ≡ heardTold (h1 .settings) (h1 .state) (h1 .halves) (h1 .delays) (p-4 .message) h6 h7) (is-127 : Is R-Told p-125 (w-124 ∷ [])) → Sq W (‵ (fobs γ1 (R-UnitWords .coded .code h1)) ∷ ‵ (fbor κ1 (Body (mem R-UnitWords) b1 o1 γ1)) ∷ ‵ (flft κ1 q1) ∷ ‵ (MutSlice (named 4) κ5 R-u8 .own (x5 zs-8) ((sliceVal (b5, o5) (length h5)) ∷ [])) ∷ ‵ (flft κ5 q5) ∷ ‵ (flft κ8 q8) ∷ ‵ (flft κ4 q4) ∷ ‵ (flft κ3 q3) ∷ ‵ (flft κ2 q2) ∷ ‵ (ftrue) ∷ ‵ (fobs γ8 (R-AnswerWords .coded .code h8)) ∷ ‵ (fbor κ8 (Body (mem R-AnswerWords) b8 o8 γ8)) ∷ ‵ (R-Stamp .own h7 (u7 ∷ [])) ∷ ‵ (R-u64 .own h6 (u6 ∷ [])) ∷ ‵ (fobs γ4 (R-Watch .coded .code h4)) ∷ ‵ (fbor κ4 (Body (mem R-Watch) b4 o4 γ4)) ∷ ‵ (fobs γ3 (codedHoleys R-MasterWords .code (heres R-MasterWords h3))) ∷ ‵ (fbor κ3 (Held R-MasterWords (length h3) b3 o3 γ3)) ∷ ‵ (at-slice R-MasterWords (x3 h3) ((sliceVal (b3, o3) (length h3)) ∷ [])) ∷ ‵ (fobs γ2 (R-Servo .coded .code h2)) ∷ ‵ (fbor κ2 (Body (mem R-Servo) b2 o2 γ2)) ∷ ‵ (froom (tyRef erased mut (pointee (R-u8x128 .written))) l65 0) ∷ ‵ (fdies (tyRef erased mut (pointee (R-u8x128 .written))) l65) ∷ ‵ (froom (tyRef erased mut (pointee (R-i32x128 .written))) l64 0) ∷ ‵ (fdies (tyRef erased mut (pointee (R-i32x128 .written))) l64) ∷ ‵ (froom (tyRef erased mut (pointee (R-i64x128 .written))) l63 0) ∷ ‵ (fdies (tyRef erased mut (pointee (R-i64x128 .written))) l63) ∷ ‵ (froom MHead′.mir l62 0) ∷ ‵ (fdies MHead′.mir l62) ∷ ‵ (froom MAnswerWords′.mir l61 0) ∷ ‵ (fdies MAnswerWords′.mir l61) ∷ ‵ (froom MAnswerWords′.mir l60 0) ∷ ‵ (fdies MAnswerWords′.mir l60) ∷ ‵ (froom (tyRef erased mut (pointee (R-u8x128 .written))) l59 0) ∷ ‵ (fdies (tyRef erased mut (pointee (R-u8x128 .written))) l59) ∷ ‵ (froom (tyRef erased mut (pointee (R-i32x128 .written))) l58 0) ∷ ‵ (fdies (tyRef erased mut (pointee (R-i32x128 .written))) l58) ∷ ‵ (froom (tyRef erased mut (pointee (R-i64x128 .written))) l57 0) ∷ ‵ (fdies (tyRef erased mut (pointee (R-i64x128 .written))) l57) ∷ ‵ (froom MHead′.mir l56 0) ∷ ‵ (fdies MHead′.mir l56) ∷ ‵ (froom tyPtr l55 0) ∷ ‵ (fdies tyPtr l55) ∷ ‵ (froom tyPtr l54 0) ∷ ‵ (fdies tyPtr l54) ∷ ‵ (froom (tyInt w64) l53 0) ∷ ‵ (fdies (tyInt w64) l53) ∷ ‵ (froom MAnswerWords′.mir l52 0) ∷ ‵ (fdies MAnswerWords′.mir l52) ∷ ‵ (froom tyBool l51 0) ∷ ‵ (fdies tyBool l51) ∷ ‵ (froom tyPtr l50 0) ∷ ‵ (fdies tyPtr l50) ∷ ‵ (froom tyPtr l49 0) ∷ ‵ (fdies tyPtr l49) ∷ ‵ (froom tyPtr l48 0) ∷ ‵ (fdies tyPtr l48) ∷ ‵ (froom tyPtr l47 0) ∷ ‵ (fdies tyPtr l47) ∷ ‵ (froom MMasterWords′.mir l46 0) ∷ ‵ (fdies MMasterWords′.mir l46) ∷ ‵ (froom tyPtr l45 0) ∷ ‵ (fdies tyPtr l45) ∷ ‵ (froom MAnswerWords′.mir l44 0) ∷ ‵ (fdies MAnswerWords′.mir l44) ∷ ‵ (froom (tyInt w64) l43 0) ∷ ‵ (fdies (tyInt w64) l43) ∷ ‵ (froom MAnswerWords′.mir l42 0) ∷ ‵ (fdies MAnswerWords′.mir l42) ∷ ‵ (froom tyBool l41 0) ∷ ‵ (fdies tyBool l41) ∷ ‵ (froom (sliceTy (tyRef erased mut (tyInt w8))) l40 0) ∷ ‵ (fdies (sliceTy (tyRef erased mut (tyInt w8))) l40) ∷ ‵ (froom (tyRef erased mut (tyInt w8)) l39 0) ∷ ‵ (fdies (tyRef erased mut (tyInt w8)) l39) ∷ ‵ (froom (tyInt w16) l38 0) ∷ ‵ (fdies (tyInt w16) l38) ∷ ‵ (froom (tyInt w8) l37 0) ∷ ‵ (fdies (tyInt w8) l37) ∷ ‵ (froom MServo′.mir l36 0) ∷ ‵ (fdies MServo′.mir l36) ∷ ‵ (froom tyBool l35 0) ∷ ‵ (fdies tyBool l35) ∷ ‵ (froom tyBool l34 0) ∷ ‵ (fdies tyBool l34) ∷ ‵ (froom MAccepted′.mir l33 0) ∷ ‵ (fdies MAccepted′.mir l33) ∷ ‵ (froom MServo′.mir l32 0) ∷ ‵ (fdies MServo′.mir l32) ∷ ‵ (froom tyBool l31 0) ∷ ‵ (fdies tyBool l31) ∷ ‵ (fat fullShare MTold′.mir l30 0 w-124) ∷ ‵ (fdies MTold′.mir l30) ∷ ‵ (froom MDelaysWords′.mir l29 0) ∷ ‵ (fdies MDelaysWords′.mir l29) ∷ ‵ (froom MHalvesWords′.mir l28 0) ∷ ‵ (fdies MHalvesWords′.mir l28) ∷ ‵ (froom MEmptied′.mir l27 0) ∷ ‵ (fdies MEmptied′.mir l27) ∷ ‵ (froom tyBool l26 0) ∷ ‵ (fdies tyBool l26) ∷ ‵ (froom MHeld′.mir l25 0) ∷ ‵ (fdies MHeld′.mir l25) ∷ ‵ (froom MMasterWords′.mir l24 0) ∷ ‵ (fdies MMasterWords′.mir l24) ∷ ‵ (froom (tyInt w64) l23 0) ∷ ‵ (fdies (tyInt w64) l23) ∷ ‵ (froom tyBool l22 0) ∷ ‵ (fdies tyBool l22) ∷ ‵ (froom MSeat′.mir l21 0) ∷ ‵ (fdies MSeat′.mir l21) ∷ ‵ (froom MLooked′.mir l20 0) ∷ ‵ (fdies MLooked′.mir l20) ∷ ‵ (froom MLooked′.mir l19 0) ∷ ‵ (fdies MLooked′.mir l19) ∷ ‵ (froom MLooked′.mir l18 0) ∷ ‵ (fdies MLooked′.mir l18) ∷ ‵ (froom MLooked′.mir l17 0) ∷ ‵ (fdies MLooked′.mir l17) ∷ ‵ (froom MLooked′.mir l16 0) ∷ ‵ (fdies MLooked′.mir l16) ∷ ‵ (froom (tyInt w32) l15 0) ∷ ‵ (fdies (tyInt w32) l15) ∷ ‵ (froom tyBool l14 0) ∷ ‵ (fdies tyBool l14) ∷ ‵ (froom MStateWords′.mir l13 0) ∷ ‵ (fdies MStateWords′.mir l13) ∷ ‵ (fat fullShare MSettingsWords′.mir l12 0 u-24) ∷ ‵ (fdies MSettingsWords′.mir l12) ∷ ‵ (froom MMessage′.mir l11 0) ∷ ‵ (fdies MMessage′.mir l11) ∷ ‵ (froom tyBool l10 0) ∷ ‵ (fdies tyBool l10) ∷ ‵ (froom MReceived′.mir l9 0) ∷ ‵ (fdies MReceived′.mir l9) ∷ ‵ (fat fullShare (tyRef (named 5) mut (pointee (R-AnswerWords .written))) l8 0 (vptr b8 o8)) ∷ ‵ (fdies (tyRef (named 5) mut (pointee (R-AnswerWords .written))) l8) ∷ ‵ (froom MStamp′.mir l7 0) ∷ ‵ (fdies MStamp′.mir l7) ∷ ‵ (froom (tyInt w64) l6 0) ∷ ‵ (fdies (tyInt w64) l6) ∷ ‵ (froom (sliceTy (tyRef (named 4) mut (tyInt w8))) l5 0) ∷ ‵ (fdies (sliceTy (tyRef (named 4) mut (tyInt w8))) l5) ∷ ‵ (fat fullShare (tyRef (named 3) mut (pointee (R-Watch .written))) l4 0 (vptr b4 o4)) ∷ ‵ (fdies (tyRef (named 3) mut (pointee (R-Watch .written))) l4) ∷ ‵ (froom (sliceTy (tyRef (named 2) mut (pointee (R-MasterWords .written)))) l3 0) ∷ ‵ (fdies (sliceTy (tyRef (named 2) mut (pointee (R-MasterWords .written)))) l3) ∷ ‵ (fat fullShare (tyRef (named 1) mut (pointee (R-Servo .written))) l2 0 (vptr b2 o2)) ∷ ‵ (fdies (tyRef (named 1) mut (pointee (R-Servo .written))) l2) ∷ ‵ (fat fullShare (tyRef (named 0) mut (pointee (R-UnitWords .written))) l1 0 (vptr b1 o1)) ∷ ‵ (fdies (tyRef (named 0) mut (pointee (R-UnitWords .written))) l1) ∷ ‵ (froom tyUnit l0 0) ∷ ‵ (fdies tyUnit l0) ∷ []) (runs C Λ En mir′.t-19 (atRet En Post))
       from-19 zs-8 len-9 p-4 w-3 e-6 is-7 left1 good u-24 g-25 u-28 g-29 left2 u-118 g-119 u-122 g-123 p-125 w-124 e-126 is-127 =
-          rewrite ! 83 (λ (u : Val). ‵ (fat fullShare MTold′.mir l30 0 u)) ((parts-Told p-125 w-124 is-127) .whole-is) refl $
-          assigns ! (of-opd ! (load ! (from ! (fld ! {τ = tyBool} {d = off-Told-7} field-Told-7 (stop !))) (look-in ! 83 (sub ! {ν = name-of MTold′.mir} {τs = tys-of MTold′.mir} 7 {τ = tyBool} {d = off-Told-7} field-Told-7 (whole !))))) (from ! (stop !)) (init ! 81 refl (lawful-bool 𝓤 H A W .typed (p-125 .barred) _ ((parts-Told p-125 w-124 is-127) .pg7) .0)) $
-          assigns ! (of-opd ! (load ! (from ! (stop !)) (look ! 81 refl))) (from ! (stop !)) (init ! 69 refl (lawful-bool 𝓤 H A W .typed (p-125 .barred) _ ((parts-Told p-125 w-124 is-127) .pg7) .0)) $
-          rewrite ! 69 (λ (u : Val). ‵ (fat fullShare tyBool l37 0 u)) (ap only (tells-bool (p-125 .barred) (((parts-Told p-125 w-124 is-127) .pu7) ∷ []) ((parts-Told p-125 w-124 is-127) .pg7))) refl $
+          rewrite ! 91 (λ (u : Val). ‵ (fat fullShare MTold′.mir l30 0 u)) ((parts-Told p-125 w-124 is-127) .whole-is) refl $
+          assigns ! (of-opd ! (load ! (from ! (fld ! {τ = tyBool} {d = off-Told-7} field-Told-7 (stop !))) (look-in ! 91 (sub ! {ν = name-of MTold′.mir} {τs = tys-of MTold′.mir} 7 {τ = tyBool} {d = off-Told-7} field-Told-7 (whole !))))) (from ! (stop !)) (init ! 89 refl (lawful-bool 𝓤 H A W .typed (p-125 .barred) _ ((parts-Told p-125 w-124 is-127) .pg7) .0)) $
+          assigns ! (of-opd ! (load ! (from ! (stop !)) (look ! 89 refl))) (from ! (stop !)) (init ! 69 refl (lawful-bool 𝓤 H A W .typed (p-125 .barred) _ ((parts-Told p-125 w-124 is-127) .pg7) .0)) $
+          rewrite ! 69 (λ (u : Val). ‵ (fat fullShare tyBool l41 0 u)) (ap only (tells-bool (p-125 .barred) (((parts-Told p-125 w-124 is-127) .pu7) ∷ []) ((parts-Told p-125 w-124 is-127) .pg7))) refl $
           first ! $ branches ! (load ! (from ! (stop !)) (look ! 69 refl))
-          (λ held5. forget ! 141 refl $ forget ! 139 refl $ forget ! 135 refl $ forget ! 119 refl $ forget ! 81 refl $ forget ! 69 refl $ from-21-1 _ refl zs-8 len-9 p-4 w-3 e-6 is-7 left1 good u-24 g-25 u-28 g-29 left2 u-118 g-119 u-122 g-123 p-125 w-124 e-126 is-127 held5)
+          (λ held5. forget ! 149 refl $ forget ! 147 refl $ forget ! 143 refl $ forget ! 127 refl $ forget ! 89 refl $ forget ! 69 refl $ from-21-1 _ refl zs-8 len-9 p-4 w-3 e-6 is-7 left1 good u-24 g-25 u-28 g-29 left2 u-118 g-119 u-122 g-123 p-125 w-124 e-126 is-127 held5)
           (λ left5. skips ! $ exec ! C Λ En mir′.t-22 (atRet En Post) $
-          forget ! 81 refl $ forget ! 69 refl $
+          forget ! 89 refl $ forget ! 69 refl $
           from-22 zs-8 len-9 p-4 w-3 e-6 is-7 left1 good u-24 g-25 u-28 g-29 left2 u-118 g-119 u-122 g-123 p-125 w-124 e-126 is-127 left5)
 
-      from-18 : (zs-8 : List ℕ) (len-9 : length zs-8 ≡ length h5) (p-4 : SReceived.Received) (w-3 : Val) (e-6 : (p-4 ≡ receivedBy (readOf h5)) × (zs-8 ≡ h5)) (is-7 : Is R-Received p-4 (w-3 ∷ [])) (left1 : Holds (not (p-4 .barred))) (good : Holds (not (not (eqb (length h3) 5)))) (u-24 : Val) (g-25 : Is R-SettingsWords (h1 .settings) (u-24 ∷ [])) (u-28 : Val) (g-29 : Is R-StateWords (h1 .state) (u-28 ∷ [])) (left2 : Holds (not (p-4 .announces))) (u-118 : Val) (g-119 : Is R-HalvesWords (h1 .halves) (u-118 ∷ [])) (u-122 : Val) (g-123 : Is R-DelaysWords (h1 .delays) (u-122 ∷ [])) → Sq W (‵ (fobs γ1 (R-UnitWords .coded .code h1)) ∷ ‵ (fbor κ1 (Body (mem R-UnitWords) b1 o1 γ1)) ∷ ‵ (flft κ1 q1) ∷ ‵ (MutSlice (named 4) κ5 R-u8 .own (x5 zs-8) ((sliceVal (b5, o5) (length h5)) ∷ [])) ∷ ‵ (flft κ5 q5) ∷ ‵ (flft κ8 q8) ∷ ‵ (flft κ4 q4) ∷ ‵ (flft κ3 q3) ∷ ‵ (flft κ2 q2) ∷ ‵ (ftrue) ∷ ‵ (fobs γ8 (R-AnswerWords .coded .code h8)) ∷ ‵ (fbor κ8 (Body (mem R-AnswerWords) b8 o8 γ8)) ∷ ‵ (R-Stamp .own h7 (u7 ∷ [])) ∷ ‵ (R-u64 .own h6 (u6 ∷ [])) ∷ ‵ (fobs γ4 (R-Watch .coded .code h4)) ∷ ‵ (fbor κ4 (Body (mem R-Watch) b4 o4 γ4)) ∷ ‵ (fobs γ3 (codedHoleys R-MasterWords .code (heres R-MasterWords h3))) ∷ ‵ (fbor κ3 (Held R-MasterWords (length h3) b3 o3 γ3)) ∷ ‵ (at-slice R-MasterWords (x3 h3) ((sliceVal (b3, o3) (length h3)) ∷ [])) ∷ ‵ (fobs γ2 (R-Servo .coded .code h2)) ∷ ‵ (fbor κ2 (Body (mem R-Servo) b2 o2 γ2)) ∷ ‵ (froom (tyRef erased mut (pointee (R-u8x128 .written))) l61 0) ∷ ‵ (fdies (tyRef erased mut (pointee (R-u8x128 .written))) l61) ∷ ‵ (froom (tyRef erased mut (pointee (R-i32x128 .written))) l60 0) ∷ ‵ (fdies (tyRef erased mut (pointee (R-i32x128 .written))) l60) ∷ ‵ (froom (tyRef erased mut (pointee (R-i64x128 .written))) l59 0) ∷ ‵ (fdies (tyRef erased mut (pointee (R-i64x128 .written))) l59) ∷ ‵ (froom MHead′.mir l58 0) ∷ ‵ (fdies MHead′.mir l58) ∷ ‵ (froom MAnswerWords′.mir l57 0) ∷ ‵ (fdies MAnswerWords′.mir l57) ∷ ‵ (froom MAnswerWords′.mir l56 0) ∷ ‵ (fdies MAnswerWords′.mir l56) ∷ ‵ (froom (tyRef erased mut (pointee (R-u8x128 .written))) l55 0) ∷ ‵ (fdies (tyRef erased mut (pointee (R-u8x128 .written))) l55) ∷ ‵ (froom (tyRef erased mut (pointee (R-i32x128 .written))) l54 0) ∷ ‵ (fdies (tyRef erased mut (pointee (R-i32x128 .written))) l54) ∷ ‵ (froom (tyRef erased mut (pointee (R-i64x128 .written))) l53 0) ∷ ‵ (fdies (tyRef erased mut (pointee (R-i64x128 .written))) l53) ∷ ‵ (froom MHead′.mir l52 0) ∷ ‵ (fdies MHead′.mir l52) ∷ ‵ (froom tyPtr l51 0) ∷ ‵ (fdies tyPtr l51) ∷ ‵ (froom tyPtr l50 0) ∷ ‵ (fdies tyPtr l50) ∷ ‵ (froom (tyInt w64) l49 0) ∷ ‵ (fdies (tyInt w64) l49) ∷ ‵ (froom MAnswerWords′.mir l48 0) ∷ ‵ (fdies MAnswerWords′.mir l48) ∷ ‵ (froom tyBool l47 0) ∷ ‵ (fdies tyBool l47) ∷ ‵ (froom tyPtr l46 0) ∷ ‵ (fdies tyPtr l46) ∷ ‵ (froom tyPtr l45 0) ∷ ‵ (fdies tyPtr l45) ∷ ‵ (froom tyPtr l44 0) ∷ ‵ (fdies tyPtr l44) ∷ ‵ (froom tyPtr l43 0) ∷ ‵ (fdies tyPtr l43) ∷ ‵ (froom MMasterWords′.mir l42 0) ∷ ‵ (fdies MMasterWords′.mir l42) ∷ ‵ (froom tyPtr l41 0) ∷ ‵ (fdies tyPtr l41) ∷ ‵ (froom MAnswerWords′.mir l40 0) ∷ ‵ (fdies MAnswerWords′.mir l40) ∷ ‵ (froom (tyInt w64) l39 0) ∷ ‵ (fdies (tyInt w64) l39) ∷ ‵ (froom MAnswerWords′.mir l38 0) ∷ ‵ (fdies MAnswerWords′.mir l38) ∷ ‵ (froom tyBool l37 0) ∷ ‵ (fdies tyBool l37) ∷ ‵ (froom (sliceTy (tyRef erased mut (tyInt w8))) l36 0) ∷ ‵ (fdies (sliceTy (tyRef erased mut (tyInt w8))) l36) ∷ ‵ (froom (tyRef erased mut (tyInt w8)) l35 0) ∷ ‵ (fdies (tyRef erased mut (tyInt w8)) l35) ∷ ‵ (froom tyBool l34 0) ∷ ‵ (fdies tyBool l34) ∷ ‵ (froom MServo′.mir l33 0) ∷ ‵ (fdies MServo′.mir l33) ∷ ‵ (froom MServo′.mir l32 0) ∷ ‵ (fdies MServo′.mir l32) ∷ ‵ (froom tyBool l31 0) ∷ ‵ (fdies tyBool l31) ∷ ‵ (froom MTold′.mir l30 0) ∷ ‵ (fdies MTold′.mir l30) ∷ ‵ (fat fullShare MDelaysWords′.mir l29 0 u-122) ∷ ‵ (fdies MDelaysWords′.mir l29) ∷ ‵ (fat fullShare MHalvesWords′.mir l28 0 u-118) ∷ ‵ (fdies MHalvesWords′.mir l28) ∷ ‵ (froom MEmptied′.mir l27 0) ∷ ‵ (fdies MEmptied′.mir l27) ∷ ‵ (froom tyBool l26 0) ∷ ‵ (fdies tyBool l26) ∷ ‵ (froom MHeld′.mir l25 0) ∷ ‵ (fdies MHeld′.mir l25) ∷ ‵ (froom MMasterWords′.mir l24 0) ∷ ‵ (fdies MMasterWords′.mir l24) ∷ ‵ (froom (tyInt w64) l23 0) ∷ ‵ (fdies (tyInt w64) l23) ∷ ‵ (froom tyBool l22 0) ∷ ‵ (fdies tyBool l22) ∷ ‵ (froom MSeat′.mir l21 0) ∷ ‵ (fdies MSeat′.mir l21) ∷ ‵ (froom MLooked′.mir l20 0) ∷ ‵ (fdies MLooked′.mir l20) ∷ ‵ (froom MLooked′.mir l19 0) ∷ ‵ (fdies MLooked′.mir l19) ∷ ‵ (froom MLooked′.mir l18 0) ∷ ‵ (fdies MLooked′.mir l18) ∷ ‵ (froom MLooked′.mir l17 0) ∷ ‵ (fdies MLooked′.mir l17) ∷ ‵ (froom MLooked′.mir l16 0) ∷ ‵ (fdies MLooked′.mir l16) ∷ ‵ (froom (tyInt w32) l15 0) ∷ ‵ (fdies (tyInt w32) l15) ∷ ‵ (froom tyBool l14 0) ∷ ‵ (fdies tyBool l14) ∷ ‵ (fat fullShare MStateWords′.mir l13 0 u-28) ∷ ‵ (fdies MStateWords′.mir l13) ∷ ‵ (fat fullShare MSettingsWords′.mir l12 0 u-24) ∷ ‵ (fdies MSettingsWords′.mir l12) ∷ ‵ (fat fullShare MMessage′.mir l11 0 ((parts-Received p-4 w-3 is-7) .pu0)) ∷ ‵ (fdies MMessage′.mir l11) ∷ ‵ (froom tyBool l10 0) ∷ ‵ (fdies tyBool l10) ∷ ‵ (froom MReceived′.mir l9 0) ∷ ‵ (fdies MReceived′.mir l9) ∷ ‵ (fat fullShare (tyRef (named 5) mut (pointee (R-AnswerWords .written))) l8 0 (vptr b8 o8)) ∷ ‵ (fdies (tyRef (named 5) mut (pointee (R-AnswerWords .written))) l8) ∷ ‵ (fat fullShare MStamp′.mir l7 0 u7) ∷ ‵ (fdies MStamp′.mir l7) ∷ ‵ (fat fullShare (tyInt w64) l6 0 u6) ∷ ‵ (fdies (tyInt w64) l6) ∷ ‵ (froom (sliceTy (tyRef (named 4) mut (tyInt w8))) l5 0) ∷ ‵ (fdies (sliceTy (tyRef (named 4) mut (tyInt w8))) l5) ∷ ‵ (fat fullShare (tyRef (named 3) mut (pointee (R-Watch .written))) l4 0 (vptr b4 o4)) ∷ ‵ (fdies (tyRef (named 3) mut (pointee (R-Watch .written))) l4) ∷ ‵ (froom (sliceTy (tyRef (named 2) mut (pointee (R-MasterWords .written)))) l3 0) ∷ ‵ (fdies (sliceTy (tyRef (named 2) mut (pointee (R-MasterWords .written)))) l3) ∷ ‵ (fat fullShare (tyRef (named 1) mut (pointee (R-Servo .written))) l2 0 (vptr b2 o2)) ∷ ‵ (fdies (tyRef (named 1) mut (pointee (R-Servo .written))) l2) ∷ ‵ (fat fullShare (tyRef (named 0) mut (pointee (R-UnitWords .written))) l1 0 (vptr b1 o1)) ∷ ‵ (fdies (tyRef (named 0) mut (pointee (R-UnitWords .written))) l1) ∷ ‵ (froom tyUnit l0 0) ∷ ‵ (fdies tyUnit l0) ∷ []) (runs C Λ En mir′.t-18 (atRet En Post))
+      from-18 : (zs-8 : List ℕ) (len-9 : length zs-8 ≡ length h5) (p-4 : SReceived.Received) (w-3 : Val) (e-6 : (p-4 ≡ receivedBy (readOf h5)) × (zs-8 ≡ h5)) (is-7 : Is R-Received p-4 (w-3 ∷ [])) (left1 : Holds (not (p-4 .barred))) (good : Holds (not (not (eqb (length h3) 5)))) (u-24 : Val) (g-25 : Is R-SettingsWords (h1 .settings) (u-24 ∷ [])) (u-28 : Val) (g-29 : Is R-StateWords (h1 .state) (u-28 ∷ [])) (left2 : Holds (not (p-4 .announces))) (u-118 : Val) (g-119 : Is R-HalvesWords (h1 .halves) (u-118 ∷ [])) (u-122 : Val) (g-123 : Is R-DelaysWords (h1 .delays) (u-122 ∷ [])) → Sq W (‵ (fobs γ1 (R-UnitWords .coded .code h1)) ∷ ‵ (fbor κ1 (Body (mem R-UnitWords) b1 o1 γ1)) ∷ ‵ (flft κ1 q1) ∷ ‵ (MutSlice (named 4) κ5 R-u8 .own (x5 zs-8) ((sliceVal (b5, o5) (length h5)) ∷ [])) ∷ ‵ (flft κ5 q5) ∷ ‵ (flft κ8 q8) ∷ ‵ (flft κ4 q4) ∷ ‵ (flft κ3 q3) ∷ ‵ (flft κ2 q2) ∷ ‵ (ftrue) ∷ ‵ (fobs γ8 (R-AnswerWords .coded .code h8)) ∷ ‵ (fbor κ8 (Body (mem R-AnswerWords) b8 o8 γ8)) ∷ ‵ (R-Stamp .own h7 (u7 ∷ [])) ∷ ‵ (R-u64 .own h6 (u6 ∷ [])) ∷ ‵ (fobs γ4 (R-Watch .coded .code h4)) ∷ ‵ (fbor κ4 (Body (mem R-Watch) b4 o4 γ4)) ∷ ‵ (fobs γ3 (codedHoleys R-MasterWords .code (heres R-MasterWords h3))) ∷ ‵ (fbor κ3 (Held R-MasterWords (length h3) b3 o3 γ3)) ∷ ‵ (at-slice R-MasterWords (x3 h3) ((sliceVal (b3, o3) (length h3)) ∷ [])) ∷ ‵ (fobs γ2 (R-Servo .coded .code h2)) ∷ ‵ (fbor κ2 (Body (mem R-Servo) b2 o2 γ2)) ∷ ‵ (froom (tyRef erased mut (pointee (R-u8x128 .written))) l65 0) ∷ ‵ (fdies (tyRef erased mut (pointee (R-u8x128 .written))) l65) ∷ ‵ (froom (tyRef erased mut (pointee (R-i32x128 .written))) l64 0) ∷ ‵ (fdies (tyRef erased mut (pointee (R-i32x128 .written))) l64) ∷ ‵ (froom (tyRef erased mut (pointee (R-i64x128 .written))) l63 0) ∷ ‵ (fdies (tyRef erased mut (pointee (R-i64x128 .written))) l63) ∷ ‵ (froom MHead′.mir l62 0) ∷ ‵ (fdies MHead′.mir l62) ∷ ‵ (froom MAnswerWords′.mir l61 0) ∷ ‵ (fdies MAnswerWords′.mir l61) ∷ ‵ (froom MAnswerWords′.mir l60 0) ∷ ‵ (fdies MAnswerWords′.mir l60) ∷ ‵ (froom (tyRef erased mut (pointee (R-u8x128 .written))) l59 0) ∷ ‵ (fdies (tyRef erased mut (pointee (R-u8x128 .written))) l59) ∷ ‵ (froom (tyRef erased mut (pointee (R-i32x128 .written))) l58 0) ∷ ‵ (fdies (tyRef erased mut (pointee (R-i32x128 .written))) l58) ∷ ‵ (froom (tyRef erased mut (pointee (R-i64x128 .written))) l57 0) ∷ ‵ (fdies (tyRef erased mut (pointee (R-i64x128 .written))) l57) ∷ ‵ (froom MHead′.mir l56 0) ∷ ‵ (fdies MHead′.mir l56) ∷ ‵ (froom tyPtr l55 0) ∷ ‵ (fdies tyPtr l55) ∷ ‵ (froom tyPtr l54 0) ∷ ‵ (fdies tyPtr l54) ∷ ‵ (froom (tyInt w64) l53 0) ∷ ‵ (fdies (tyInt w64) l53) ∷ ‵ (froom MAnswerWords′.mir l52 0) ∷ ‵ (fdies MAnswerWords′.mir l52) ∷ ‵ (froom tyBool l51 0) ∷ ‵ (fdies tyBool l51) ∷ ‵ (froom tyPtr l50 0) ∷ ‵ (fdies tyPtr l50) ∷ ‵ (froom tyPtr l49 0) ∷ ‵ (fdies tyPtr l49) ∷ ‵ (froom tyPtr l48 0) ∷ ‵ (fdies tyPtr l48) ∷ ‵ (froom tyPtr l47 0) ∷ ‵ (fdies tyPtr l47) ∷ ‵ (froom MMasterWords′.mir l46 0) ∷ ‵ (fdies MMasterWords′.mir l46) ∷ ‵ (froom tyPtr l45 0) ∷ ‵ (fdies tyPtr l45) ∷ ‵ (froom MAnswerWords′.mir l44 0) ∷ ‵ (fdies MAnswerWords′.mir l44) ∷ ‵ (froom (tyInt w64) l43 0) ∷ ‵ (fdies (tyInt w64) l43) ∷ ‵ (froom MAnswerWords′.mir l42 0) ∷ ‵ (fdies MAnswerWords′.mir l42) ∷ ‵ (froom tyBool l41 0) ∷ ‵ (fdies tyBool l41) ∷ ‵ (froom (sliceTy (tyRef erased mut (tyInt w8))) l40 0) ∷ ‵ (fdies (sliceTy (tyRef erased mut (tyInt w8))) l40) ∷ ‵ (froom (tyRef erased mut (tyInt w8)) l39 0) ∷ ‵ (fdies (tyRef erased mut (tyInt w8)) l39) ∷ ‵ (froom (tyInt w16) l38 0) ∷ ‵ (fdies (tyInt w16) l38) ∷ ‵ (froom (tyInt w8) l37 0) ∷ ‵ (fdies (tyInt w8) l37) ∷ ‵ (froom MServo′.mir l36 0) ∷ ‵ (fdies MServo′.mir l36) ∷ ‵ (froom tyBool l35 0) ∷ ‵ (fdies tyBool l35) ∷ ‵ (froom tyBool l34 0) ∷ ‵ (fdies tyBool l34) ∷ ‵ (froom MAccepted′.mir l33 0) ∷ ‵ (fdies MAccepted′.mir l33) ∷ ‵ (froom MServo′.mir l32 0) ∷ ‵ (fdies MServo′.mir l32) ∷ ‵ (froom tyBool l31 0) ∷ ‵ (fdies tyBool l31) ∷ ‵ (froom MTold′.mir l30 0) ∷ ‵ (fdies MTold′.mir l30) ∷ ‵ (fat fullShare MDelaysWords′.mir l29 0 u-122) ∷ ‵ (fdies MDelaysWords′.mir l29) ∷ ‵ (fat fullShare MHalvesWords′.mir l28 0 u-118) ∷ ‵ (fdies MHalvesWords′.mir l28) ∷ ‵ (froom MEmptied′.mir l27 0) ∷ ‵ (fdies MEmptied′.mir l27) ∷ ‵ (froom tyBool l26 0) ∷ ‵ (fdies tyBool l26) ∷ ‵ (froom MHeld′.mir l25 0) ∷ ‵ (fdies MHeld′.mir l25) ∷ ‵ (froom MMasterWords′.mir l24 0) ∷ ‵ (fdies MMasterWords′.mir l24) ∷ ‵ (froom (tyInt w64) l23 0) ∷ ‵ (fdies (tyInt w64) l23) ∷ ‵ (froom tyBool l22 0) ∷ ‵ (fdies tyBool l22) ∷ ‵ (froom MSeat′.mir l21 0) ∷ ‵ (fdies MSeat′.mir l21) ∷ ‵ (froom MLooked′.mir l20 0) ∷ ‵ (fdies MLooked′.mir l20) ∷ ‵ (froom MLooked′.mir l19 0) ∷ ‵ (fdies MLooked′.mir l19) ∷ ‵ (froom MLooked′.mir l18 0) ∷ ‵ (fdies MLooked′.mir l18) ∷ ‵ (froom MLooked′.mir l17 0) ∷ ‵ (fdies MLooked′.mir l17) ∷ ‵ (froom MLooked′.mir l16 0) ∷ ‵ (fdies MLooked′.mir l16) ∷ ‵ (froom (tyInt w32) l15 0) ∷ ‵ (fdies (tyInt w32) l15) ∷ ‵ (froom tyBool l14 0) ∷ ‵ (fdies tyBool l14) ∷ ‵ (fat fullShare MStateWords′.mir l13 0 u-28) ∷ ‵ (fdies MStateWords′.mir l13) ∷ ‵ (fat fullShare MSettingsWords′.mir l12 0 u-24) ∷ ‵ (fdies MSettingsWords′.mir l12) ∷ ‵ (fat fullShare MMessage′.mir l11 0 ((parts-Received p-4 w-3 is-7) .pu0)) ∷ ‵ (fdies MMessage′.mir l11) ∷ ‵ (froom tyBool l10 0) ∷ ‵ (fdies tyBool l10) ∷ ‵ (froom MReceived′.mir l9 0) ∷ ‵ (fdies MReceived′.mir l9) ∷ ‵ (fat fullShare (tyRef (named 5) mut (pointee (R-AnswerWords .written))) l8 0 (vptr b8 o8)) ∷ ‵ (fdies (tyRef (named 5) mut (pointee (R-AnswerWords .written))) l8) ∷ ‵ (fat fullShare MStamp′.mir l7 0 u7) ∷ ‵ (fdies MStamp′.mir l7) ∷ ‵ (fat fullShare (tyInt w64) l6 0 u6) ∷ ‵ (fdies (tyInt w64) l6) ∷ ‵ (froom (sliceTy (tyRef (named 4) mut (tyInt w8))) l5 0) ∷ ‵ (fdies (sliceTy (tyRef (named 4) mut (tyInt w8))) l5) ∷ ‵ (fat fullShare (tyRef (named 3) mut (pointee (R-Watch .written))) l4 0 (vptr b4 o4)) ∷ ‵ (fdies (tyRef (named 3) mut (pointee (R-Watch .written))) l4) ∷ ‵ (froom (sliceTy (tyRef (named 2) mut (pointee (R-MasterWords .written)))) l3 0) ∷ ‵ (fdies (sliceTy (tyRef (named 2) mut (pointee (R-MasterWords .written)))) l3) ∷ ‵ (fat fullShare (tyRef (named 1) mut (pointee (R-Servo .written))) l2 0 (vptr b2 o2)) ∷ ‵ (fdies (tyRef (named 1) mut (pointee (R-Servo .written))) l2) ∷ ‵ (fat fullShare (tyRef (named 0) mut (pointee (R-UnitWords .written))) l1 0 (vptr b1 o1)) ∷ ‵ (fdies (tyRef (named 0) mut (pointee (R-UnitWords .written))) l1) ∷ ‵ (froom tyUnit l0 0) ∷ ‵ (fdies tyUnit l0) ∷ []) (runs C Λ En mir′.t-18 (atRet En Post))
       from-18 zs-8 len-9 p-4 w-3 e-6 is-7 left1 good u-24 g-25 u-28 g-29 left2 u-118 g-119 u-122 g-123 =
           use0 W (raw (C-hear 𝓤 H A at-mem run .pre (to-hear (h1 .settings) u-24 (h1 .state) u-28 (h1 .halves) u-118 (h1 .delays) u-122 (p-4 .message) ((parts-Received p-4 w-3 is-7) .pu0) h6 u6 h7 u7))) (goes-hear (h1 .settings) u-24 g-25 (h1 .state) u-28 g-29 (h1 .halves) u-118 g-119 (h1 .delays) u-122 g-123 (p-4 .message) ((parts-Received p-4 w-3 is-7) .pu0) ((parts-Received p-4 w-3 is-7) .pg0) h6 u6 g6 h7 u7 g7) $
-          calls-at ! fm (C-hear 𝓤 H A at-mem run) known-hear (to-hear (h1 .settings) u-24 (h1 .state) u-28 (h1 .halves) u-118 (h1 .delays) u-122 (p-4 .message) ((parts-Received p-4 w-3 is-7) .pu0) h6 u6 h7 u7) (and-then ! (load ! (from ! (stop !)) (look ! 120 refl)) (and-then ! (load ! (from ! (stop !)) (look ! 118 refl)) (and-then ! (load ! (from ! (stop !)) (look ! 88 refl)) (and-then ! (load ! (from ! (stop !)) (look ! 86 refl)) (and-then ! (load ! (from ! (stop !)) (look ! 122 refl)) (and-then ! (load ! (from ! (stop !)) (look ! 132 refl)) (and-then ! (load ! (from ! (stop !)) (look ! 130 refl)) (no-more !)))))))) (λ w-124.
+          calls-at ! fm (C-hear 𝓤 H A at-mem run) known-hear (to-hear (h1 .settings) u-24 (h1 .state) u-28 (h1 .halves) u-118 (h1 .delays) u-122 (p-4 .message) ((parts-Received p-4 w-3 is-7) .pu0) h6 u6 h7 u7) (and-then ! (load ! (from ! (stop !)) (look ! 128 refl)) (and-then ! (load ! (from ! (stop !)) (look ! 126 refl)) (and-then ! (load ! (from ! (stop !)) (look ! 96 refl)) (and-then ! (load ! (from ! (stop !)) (look ! 94 refl)) (and-then ! (load ! (from ! (stop !)) (look ! 130 refl)) (and-then ! (load ! (from ! (stop !)) (look ! 140 refl)) (and-then ! (load ! (from ! (stop !)) (look ! 138 refl)) (no-more !)))))))) (λ w-124.
           use1 W (later (some (λ (p-125 : STold.Told). (‵ ftrue ⊛ ‵ (R-Told .own p-125 (w-124 ∷ []))) ⊛ raw (ensured 𝓤 H A f-hear.ended (f-hear.clauses 𝓤 H A at-mem run) tt ((h1 .settings), ((h1 .state), ((h1 .halves), ((h1 .delays), ((p-4 .message), (h6, (h7, tt))))))) tt p-125)))) (id⊢ 𝓤 _) $ await ! tt $
           pick ! (λ p-125.
           split ! $
@@ -2882,11 +2884,11 @@ module _ {M : Type 1} (𝓤 : URA M) (H : Heap 𝓤) (A : Atoms 𝓤) (W : Given
           drop ! $
           peeks ! R-Told (Is R-Told) (shows 𝓤 H A R-Told) p-125 (w-124 ∷ []) (λ is-127.
           drop ! $
-          land ! (from ! (stop !)) (init ! 83 refl (lawful-Told 𝓤 H A W .typed p-125 _ is-127 .0)) $
-          forget ! 131 refl $ forget ! 129 refl $ forget ! 121 refl $ forget ! 117 refl $ forget ! 87 refl $ forget ! 85 refl $
+          land ! (from ! (stop !)) (init ! 91 refl (lawful-Told 𝓤 H A W .typed p-125 _ is-127 .0)) $
+          forget ! 139 refl $ forget ! 137 refl $ forget ! 129 refl $ forget ! 125 refl $ forget ! 95 refl $ forget ! 93 refl $
           from-19 zs-8 len-9 p-4 w-3 e-6 is-7 left1 good u-24 g-25 u-28 g-29 left2 u-118 g-119 u-122 g-123 p-125 w-124 e-126 is-127))))
 
-      from-17 : (zs-8 : List ℕ) (len-9 : length zs-8 ≡ length h5) (p-4 : SReceived.Received) (w-3 : Val) (e-6 : (p-4 ≡ receivedBy (readOf h5)) × (zs-8 ≡ h5)) (is-7 : Is R-Received p-4 (w-3 ∷ [])) (left1 : Holds (not (p-4 .barred))) (good : Holds (not (not (eqb (length h3) 5)))) (u-24 : Val) (g-25 : Is R-SettingsWords (h1 .settings) (u-24 ∷ [])) (u-28 : Val) (g-29 : Is R-StateWords (h1 .state) (u-28 ∷ [])) (left2 : Holds (not (p-4 .announces))) (u-118 : Val) (g-119 : Is R-HalvesWords (h1 .halves) (u-118 ∷ [])) → Sq W (‵ (fobs γ1 (R-UnitWords .coded .code h1)) ∷ ‵ (fbor κ1 (Body (mem R-UnitWords) b1 o1 γ1)) ∷ ‵ (flft κ1 q1) ∷ ‵ (MutSlice (named 4) κ5 R-u8 .own (x5 zs-8) ((sliceVal (b5, o5) (length h5)) ∷ [])) ∷ ‵ (flft κ5 q5) ∷ ‵ (flft κ8 q8) ∷ ‵ (flft κ4 q4) ∷ ‵ (flft κ3 q3) ∷ ‵ (flft κ2 q2) ∷ ‵ (ftrue) ∷ ‵ (fobs γ8 (R-AnswerWords .coded .code h8)) ∷ ‵ (fbor κ8 (Body (mem R-AnswerWords) b8 o8 γ8)) ∷ ‵ (R-Stamp .own h7 (u7 ∷ [])) ∷ ‵ (R-u64 .own h6 (u6 ∷ [])) ∷ ‵ (fobs γ4 (R-Watch .coded .code h4)) ∷ ‵ (fbor κ4 (Body (mem R-Watch) b4 o4 γ4)) ∷ ‵ (fobs γ3 (codedHoleys R-MasterWords .code (heres R-MasterWords h3))) ∷ ‵ (fbor κ3 (Held R-MasterWords (length h3) b3 o3 γ3)) ∷ ‵ (at-slice R-MasterWords (x3 h3) ((sliceVal (b3, o3) (length h3)) ∷ [])) ∷ ‵ (fobs γ2 (R-Servo .coded .code h2)) ∷ ‵ (fbor κ2 (Body (mem R-Servo) b2 o2 γ2)) ∷ ‵ (froom (tyRef erased mut (pointee (R-u8x128 .written))) l61 0) ∷ ‵ (fdies (tyRef erased mut (pointee (R-u8x128 .written))) l61) ∷ ‵ (froom (tyRef erased mut (pointee (R-i32x128 .written))) l60 0) ∷ ‵ (fdies (tyRef erased mut (pointee (R-i32x128 .written))) l60) ∷ ‵ (froom (tyRef erased mut (pointee (R-i64x128 .written))) l59 0) ∷ ‵ (fdies (tyRef erased mut (pointee (R-i64x128 .written))) l59) ∷ ‵ (froom MHead′.mir l58 0) ∷ ‵ (fdies MHead′.mir l58) ∷ ‵ (froom MAnswerWords′.mir l57 0) ∷ ‵ (fdies MAnswerWords′.mir l57) ∷ ‵ (froom MAnswerWords′.mir l56 0) ∷ ‵ (fdies MAnswerWords′.mir l56) ∷ ‵ (froom (tyRef erased mut (pointee (R-u8x128 .written))) l55 0) ∷ ‵ (fdies (tyRef erased mut (pointee (R-u8x128 .written))) l55) ∷ ‵ (froom (tyRef erased mut (pointee (R-i32x128 .written))) l54 0) ∷ ‵ (fdies (tyRef erased mut (pointee (R-i32x128 .written))) l54) ∷ ‵ (froom (tyRef erased mut (pointee (R-i64x128 .written))) l53 0) ∷ ‵ (fdies (tyRef erased mut (pointee (R-i64x128 .written))) l53) ∷ ‵ (froom MHead′.mir l52 0) ∷ ‵ (fdies MHead′.mir l52) ∷ ‵ (froom tyPtr l51 0) ∷ ‵ (fdies tyPtr l51) ∷ ‵ (froom tyPtr l50 0) ∷ ‵ (fdies tyPtr l50) ∷ ‵ (froom (tyInt w64) l49 0) ∷ ‵ (fdies (tyInt w64) l49) ∷ ‵ (froom MAnswerWords′.mir l48 0) ∷ ‵ (fdies MAnswerWords′.mir l48) ∷ ‵ (froom tyBool l47 0) ∷ ‵ (fdies tyBool l47) ∷ ‵ (froom tyPtr l46 0) ∷ ‵ (fdies tyPtr l46) ∷ ‵ (froom tyPtr l45 0) ∷ ‵ (fdies tyPtr l45) ∷ ‵ (froom tyPtr l44 0) ∷ ‵ (fdies tyPtr l44) ∷ ‵ (froom tyPtr l43 0) ∷ ‵ (fdies tyPtr l43) ∷ ‵ (froom MMasterWords′.mir l42 0) ∷ ‵ (fdies MMasterWords′.mir l42) ∷ ‵ (froom tyPtr l41 0) ∷ ‵ (fdies tyPtr l41) ∷ ‵ (froom MAnswerWords′.mir l40 0) ∷ ‵ (fdies MAnswerWords′.mir l40) ∷ ‵ (froom (tyInt w64) l39 0) ∷ ‵ (fdies (tyInt w64) l39) ∷ ‵ (froom MAnswerWords′.mir l38 0) ∷ ‵ (fdies MAnswerWords′.mir l38) ∷ ‵ (froom tyBool l37 0) ∷ ‵ (fdies tyBool l37) ∷ ‵ (froom (sliceTy (tyRef erased mut (tyInt w8))) l36 0) ∷ ‵ (fdies (sliceTy (tyRef erased mut (tyInt w8))) l36) ∷ ‵ (froom (tyRef erased mut (tyInt w8)) l35 0) ∷ ‵ (fdies (tyRef erased mut (tyInt w8)) l35) ∷ ‵ (froom tyBool l34 0) ∷ ‵ (fdies tyBool l34) ∷ ‵ (froom MServo′.mir l33 0) ∷ ‵ (fdies MServo′.mir l33) ∷ ‵ (froom MServo′.mir l32 0) ∷ ‵ (fdies MServo′.mir l32) ∷ ‵ (froom tyBool l31 0) ∷ ‵ (fdies tyBool l31) ∷ ‵ (froom MTold′.mir l30 0) ∷ ‵ (fdies MTold′.mir l30) ∷ ‵ (froom MDelaysWords′.mir l29 0) ∷ ‵ (fdies MDelaysWords′.mir l29) ∷ ‵ (fat fullShare MHalvesWords′.mir l28 0 u-118) ∷ ‵ (fdies MHalvesWords′.mir l28) ∷ ‵ (froom MEmptied′.mir l27 0) ∷ ‵ (fdies MEmptied′.mir l27) ∷ ‵ (froom tyBool l26 0) ∷ ‵ (fdies tyBool l26) ∷ ‵ (froom MHeld′.mir l25 0) ∷ ‵ (fdies MHeld′.mir l25) ∷ ‵ (froom MMasterWords′.mir l24 0) ∷ ‵ (fdies MMasterWords′.mir l24) ∷ ‵ (froom (tyInt w64) l23 0) ∷ ‵ (fdies (tyInt w64) l23) ∷ ‵ (froom tyBool l22 0) ∷ ‵ (fdies tyBool l22) ∷ ‵ (froom MSeat′.mir l21 0) ∷ ‵ (fdies MSeat′.mir l21) ∷ ‵ (froom MLooked′.mir l20 0) ∷ ‵ (fdies MLooked′.mir l20) ∷ ‵ (froom MLooked′.mir l19 0) ∷ ‵ (fdies MLooked′.mir l19) ∷ ‵ (froom MLooked′.mir l18 0) ∷ ‵ (fdies MLooked′.mir l18) ∷ ‵ (froom MLooked′.mir l17 0) ∷ ‵ (fdies MLooked′.mir l17) ∷ ‵ (froom MLooked′.mir l16 0) ∷ ‵ (fdies MLooked′.mir l16) ∷ ‵ (froom (tyInt w32) l15 0) ∷ ‵ (fdies (tyInt w32) l15) ∷ ‵ (froom tyBool l14 0) ∷ ‵ (fdies tyBool l14) ∷ ‵ (fat fullShare MStateWords′.mir l13 0 u-28) ∷ ‵ (fdies MStateWords′.mir l13) ∷ ‵ (fat fullShare MSettingsWords′.mir l12 0 u-24) ∷ ‵ (fdies MSettingsWords′.mir l12) ∷ ‵ (fat fullShare MMessage′.mir l11 0 ((parts-Received p-4 w-3 is-7) .pu0)) ∷ ‵ (fdies MMessage′.mir l11) ∷ ‵ (froom tyBool l10 0) ∷ ‵ (fdies tyBool l10) ∷ ‵ (froom MReceived′.mir l9 0) ∷ ‵ (fdies MReceived′.mir l9) ∷ ‵ (fat fullShare (tyRef (named 5) mut (pointee (R-AnswerWords .written))) l8 0 (vptr b8 o8)) ∷ ‵ (fdies (tyRef (named 5) mut (pointee (R-AnswerWords .written))) l8) ∷ ‵ (fat fullShare MStamp′.mir l7 0 u7) ∷ ‵ (fdies MStamp′.mir l7) ∷ ‵ (fat fullShare (tyInt w64) l6 0 u6) ∷ ‵ (fdies (tyInt w64) l6) ∷ ‵ (froom (sliceTy (tyRef (named 4) mut (tyInt w8))) l5 0) ∷ ‵ (fdies (sliceTy (tyRef (named 4) mut (tyInt w8))) l5) ∷ ‵ (fat fullShare (tyRef (named 3) mut (pointee (R-Watch .written))) l4 0 (vptr b4 o4)) ∷ ‵ (fdies (tyRef (named 3) mut (pointee (R-Watch .written))) l4) ∷ ‵ (froom (sliceTy (tyRef (named 2) mut (pointee (R-MasterWords .written)))) l3 0) ∷ ‵ (fdies (sliceTy (tyRef (named 2) mut (pointee (R-MasterWords .written)))) l3) ∷ ‵ (fat fullShare (tyRef (named 1) mut (pointee (R-Servo .written))) l2 0 (vptr b2 o2)) ∷ ‵ (fdies (tyRef (named 1) mut (pointee (R-Servo .written))) l2) ∷ ‵ (fat fullShare (tyRef (named 0) mut (pointee (R-UnitWords .written))) l1 0 (vptr b1 o1)) ∷ ‵ (fdies (tyRef (named 0) mut (pointee (R-UnitWords .written))) l1) ∷ ‵ (froom tyUnit l0 0) ∷ ‵ (fdies tyUnit l0) ∷ []) (runs C Λ En mir′.t-17 (atRet En Post))
+      from-17 : (zs-8 : List ℕ) (len-9 : length zs-8 ≡ length h5) (p-4 : SReceived.Received) (w-3 : Val) (e-6 : (p-4 ≡ receivedBy (readOf h5)) × (zs-8 ≡ h5)) (is-7 : Is R-Received p-4 (w-3 ∷ [])) (left1 : Holds (not (p-4 .barred))) (good : Holds (not (not (eqb (length h3) 5)))) (u-24 : Val) (g-25 : Is R-SettingsWords (h1 .settings) (u-24 ∷ [])) (u-28 : Val) (g-29 : Is R-StateWords (h1 .state) (u-28 ∷ [])) (left2 : Holds (not (p-4 .announces))) (u-118 : Val) (g-119 : Is R-HalvesWords (h1 .halves) (u-118 ∷ [])) → Sq W (‵ (fobs γ1 (R-UnitWords .coded .code h1)) ∷ ‵ (fbor κ1 (Body (mem R-UnitWords) b1 o1 γ1)) ∷ ‵ (flft κ1 q1) ∷ ‵ (MutSlice (named 4) κ5 R-u8 .own (x5 zs-8) ((sliceVal (b5, o5) (length h5)) ∷ [])) ∷ ‵ (flft κ5 q5) ∷ ‵ (flft κ8 q8) ∷ ‵ (flft κ4 q4) ∷ ‵ (flft κ3 q3) ∷ ‵ (flft κ2 q2) ∷ ‵ (ftrue) ∷ ‵ (fobs γ8 (R-AnswerWords .coded .code h8)) ∷ ‵ (fbor κ8 (Body (mem R-AnswerWords) b8 o8 γ8)) ∷ ‵ (R-Stamp .own h7 (u7 ∷ [])) ∷ ‵ (R-u64 .own h6 (u6 ∷ [])) ∷ ‵ (fobs γ4 (R-Watch .coded .code h4)) ∷ ‵ (fbor κ4 (Body (mem R-Watch) b4 o4 γ4)) ∷ ‵ (fobs γ3 (codedHoleys R-MasterWords .code (heres R-MasterWords h3))) ∷ ‵ (fbor κ3 (Held R-MasterWords (length h3) b3 o3 γ3)) ∷ ‵ (at-slice R-MasterWords (x3 h3) ((sliceVal (b3, o3) (length h3)) ∷ [])) ∷ ‵ (fobs γ2 (R-Servo .coded .code h2)) ∷ ‵ (fbor κ2 (Body (mem R-Servo) b2 o2 γ2)) ∷ ‵ (froom (tyRef erased mut (pointee (R-u8x128 .written))) l65 0) ∷ ‵ (fdies (tyRef erased mut (pointee (R-u8x128 .written))) l65) ∷ ‵ (froom (tyRef erased mut (pointee (R-i32x128 .written))) l64 0) ∷ ‵ (fdies (tyRef erased mut (pointee (R-i32x128 .written))) l64) ∷ ‵ (froom (tyRef erased mut (pointee (R-i64x128 .written))) l63 0) ∷ ‵ (fdies (tyRef erased mut (pointee (R-i64x128 .written))) l63) ∷ ‵ (froom MHead′.mir l62 0) ∷ ‵ (fdies MHead′.mir l62) ∷ ‵ (froom MAnswerWords′.mir l61 0) ∷ ‵ (fdies MAnswerWords′.mir l61) ∷ ‵ (froom MAnswerWords′.mir l60 0) ∷ ‵ (fdies MAnswerWords′.mir l60) ∷ ‵ (froom (tyRef erased mut (pointee (R-u8x128 .written))) l59 0) ∷ ‵ (fdies (tyRef erased mut (pointee (R-u8x128 .written))) l59) ∷ ‵ (froom (tyRef erased mut (pointee (R-i32x128 .written))) l58 0) ∷ ‵ (fdies (tyRef erased mut (pointee (R-i32x128 .written))) l58) ∷ ‵ (froom (tyRef erased mut (pointee (R-i64x128 .written))) l57 0) ∷ ‵ (fdies (tyRef erased mut (pointee (R-i64x128 .written))) l57) ∷ ‵ (froom MHead′.mir l56 0) ∷ ‵ (fdies MHead′.mir l56) ∷ ‵ (froom tyPtr l55 0) ∷ ‵ (fdies tyPtr l55) ∷ ‵ (froom tyPtr l54 0) ∷ ‵ (fdies tyPtr l54) ∷ ‵ (froom (tyInt w64) l53 0) ∷ ‵ (fdies (tyInt w64) l53) ∷ ‵ (froom MAnswerWords′.mir l52 0) ∷ ‵ (fdies MAnswerWords′.mir l52) ∷ ‵ (froom tyBool l51 0) ∷ ‵ (fdies tyBool l51) ∷ ‵ (froom tyPtr l50 0) ∷ ‵ (fdies tyPtr l50) ∷ ‵ (froom tyPtr l49 0) ∷ ‵ (fdies tyPtr l49) ∷ ‵ (froom tyPtr l48 0) ∷ ‵ (fdies tyPtr l48) ∷ ‵ (froom tyPtr l47 0) ∷ ‵ (fdies tyPtr l47) ∷ ‵ (froom MMasterWords′.mir l46 0) ∷ ‵ (fdies MMasterWords′.mir l46) ∷ ‵ (froom tyPtr l45 0) ∷ ‵ (fdies tyPtr l45) ∷ ‵ (froom MAnswerWords′.mir l44 0) ∷ ‵ (fdies MAnswerWords′.mir l44) ∷ ‵ (froom (tyInt w64) l43 0) ∷ ‵ (fdies (tyInt w64) l43) ∷ ‵ (froom MAnswerWords′.mir l42 0) ∷ ‵ (fdies MAnswerWords′.mir l42) ∷ ‵ (froom tyBool l41 0) ∷ ‵ (fdies tyBool l41) ∷ ‵ (froom (sliceTy (tyRef erased mut (tyInt w8))) l40 0) ∷ ‵ (fdies (sliceTy (tyRef erased mut (tyInt w8))) l40) ∷ ‵ (froom (tyRef erased mut (tyInt w8)) l39 0) ∷ ‵ (fdies (tyRef erased mut (tyInt w8)) l39) ∷ ‵ (froom (tyInt w16) l38 0) ∷ ‵ (fdies (tyInt w16) l38) ∷ ‵ (froom (tyInt w8) l37 0) ∷ ‵ (fdies (tyInt w8) l37) ∷ ‵ (froom MServo′.mir l36 0) ∷ ‵ (fdies MServo′.mir l36) ∷ ‵ (froom tyBool l35 0) ∷ ‵ (fdies tyBool l35) ∷ ‵ (froom tyBool l34 0) ∷ ‵ (fdies tyBool l34) ∷ ‵ (froom MAccepted′.mir l33 0) ∷ ‵ (fdies MAccepted′.mir l33) ∷ ‵ (froom MServo′.mir l32 0) ∷ ‵ (fdies MServo′.mir l32) ∷ ‵ (froom tyBool l31 0) ∷ ‵ (fdies tyBool l31) ∷ ‵ (froom MTold′.mir l30 0) ∷ ‵ (fdies MTold′.mir l30) ∷ ‵ (froom MDelaysWords′.mir l29 0) ∷ ‵ (fdies MDelaysWords′.mir l29) ∷ ‵ (fat fullShare MHalvesWords′.mir l28 0 u-118) ∷ ‵ (fdies MHalvesWords′.mir l28) ∷ ‵ (froom MEmptied′.mir l27 0) ∷ ‵ (fdies MEmptied′.mir l27) ∷ ‵ (froom tyBool l26 0) ∷ ‵ (fdies tyBool l26) ∷ ‵ (froom MHeld′.mir l25 0) ∷ ‵ (fdies MHeld′.mir l25) ∷ ‵ (froom MMasterWords′.mir l24 0) ∷ ‵ (fdies MMasterWords′.mir l24) ∷ ‵ (froom (tyInt w64) l23 0) ∷ ‵ (fdies (tyInt w64) l23) ∷ ‵ (froom tyBool l22 0) ∷ ‵ (fdies tyBool l22) ∷ ‵ (froom MSeat′.mir l21 0) ∷ ‵ (fdies MSeat′.mir l21) ∷ ‵ (froom MLooked′.mir l20 0) ∷ ‵ (fdies MLooked′.mir l20) ∷ ‵ (froom MLooked′.mir l19 0) ∷ ‵ (fdies MLooked′.mir l19) ∷ ‵ (froom MLooked′.mir l18 0) ∷ ‵ (fdies MLooked′.mir l18) ∷ ‵ (froom MLooked′.mir l17 0) ∷ ‵ (fdies MLooked′.mir l17) ∷ ‵ (froom MLooked′.mir l16 0) ∷ ‵ (fdies MLooked′.mir l16) ∷ ‵ (froom (tyInt w32) l15 0) ∷ ‵ (fdies (tyInt w32) l15) ∷ ‵ (froom tyBool l14 0) ∷ ‵ (fdies tyBool l14) ∷ ‵ (fat fullShare MStateWords′.mir l13 0 u-28) ∷ ‵ (fdies MStateWords′.mir l13) ∷ ‵ (fat fullShare MSettingsWords′.mir l12 0 u-24) ∷ ‵ (fdies MSettingsWords′.mir l12) ∷ ‵ (fat fullShare MMessage′.mir l11 0 ((parts-Received p-4 w-3 is-7) .pu0)) ∷ ‵ (fdies MMessage′.mir l11) ∷ ‵ (froom tyBool l10 0) ∷ ‵ (fdies tyBool l10) ∷ ‵ (froom MReceived′.mir l9 0) ∷ ‵ (fdies MReceived′.mir l9) ∷ ‵ (fat fullShare (tyRef (named 5) mut (pointee (R-AnswerWords .written))) l8 0 (vptr b8 o8)) ∷ ‵ (fdies (tyRef (named 5) mut (pointee (R-AnswerWords .written))) l8) ∷ ‵ (fat fullShare MStamp′.mir l7 0 u7) ∷ ‵ (fdies MStamp′.mir l7) ∷ ‵ (fat fullShare (tyInt w64) l6 0 u6) ∷ ‵ (fdies (tyInt w64) l6) ∷ ‵ (froom (sliceTy (tyRef (named 4) mut (tyInt w8))) l5 0) ∷ ‵ (fdies (sliceTy (tyRef (named 4) mut (tyInt w8))) l5) ∷ ‵ (fat fullShare (tyRef (named 3) mut (pointee (R-Watch .written))) l4 0 (vptr b4 o4)) ∷ ‵ (fdies (tyRef (named 3) mut (pointee (R-Watch .written))) l4) ∷ ‵ (froom (sliceTy (tyRef (named 2) mut (pointee (R-MasterWords .written)))) l3 0) ∷ ‵ (fdies (sliceTy (tyRef (named 2) mut (pointee (R-MasterWords .written)))) l3) ∷ ‵ (fat fullShare (tyRef (named 1) mut (pointee (R-Servo .written))) l2 0 (vptr b2 o2)) ∷ ‵ (fdies (tyRef (named 1) mut (pointee (R-Servo .written))) l2) ∷ ‵ (fat fullShare (tyRef (named 0) mut (pointee (R-UnitWords .written))) l1 0 (vptr b1 o1)) ∷ ‵ (fdies (tyRef (named 0) mut (pointee (R-UnitWords .written))) l1) ∷ ‵ (froom tyUnit l0 0) ∷ ‵ (fdies tyUnit l0) ∷ []) (runs C Λ En mir′.t-17 (atRet En Post))
       from-17 zs-8 len-9 p-4 w-3 e-6 is-7 left1 good u-24 g-25 u-28 g-29 left2 u-118 g-119 =
           opens ! tt R-UnitWords {h = h1} b1 o1 (λ vs-120.
           move ! (1 ∷ []) $
@@ -2896,13 +2898,13 @@ module _ {M : Type 1} (𝓤 : URA M) (H : Heap 𝓤) (A : Atoms 𝓤) (W : Given
           move ! (1 ∷ []) $
           use1 W (‵ (fat fullShare MUnitWords′.mir b1 o1 (only vs-120))) (W .laws .raw-at fullShare MUnitWords′.mir b1 o1 (only vs-120)) $
           rewrite ! 0 (λ (u : Val). ‵ (fat fullShare MUnitWords′.mir b1 o1 u)) ((parts-UnitWords h1 (only vs-120) (one-UnitWords h1 vs-120 g-121)) .whole-is) refl $
-          assigns ! (of-opd ! (load ! (from ! (hop ! (look ! 143 refl) (fld ! {τ = MDelaysWords′.mir} {d = off-UnitWords-3} field-UnitWords-3 (stop !)))) (look-in ! 0 (sub ! {ν = name-of MUnitWords′.mir} {τs = tys-of MUnitWords′.mir} 3 {τ = MDelaysWords′.mir} {d = off-UnitWords-3} field-UnitWords-3 (whole !))))) (from ! (stop !)) (init ! 87 refl (lawful-DelaysWords 𝓤 H A W .typed (h1 .delays) _ ((parts-UnitWords h1 (only vs-120) (one-UnitWords h1 vs-120 g-121)) .pg3) .0)) $
+          assigns ! (of-opd ! (load ! (from ! (hop ! (look ! 151 refl) (fld ! {τ = MDelaysWords′.mir} {d = off-UnitWords-3} field-UnitWords-3 (stop !)))) (look-in ! 0 (sub ! {ν = name-of MUnitWords′.mir} {τs = tys-of MUnitWords′.mir} 3 {τ = MDelaysWords′.mir} {d = off-UnitWords-3} field-UnitWords-3 (whole !))))) (from ! (stop !)) (init ! 95 refl (lawful-DelaysWords 𝓤 H A W .typed (h1 .delays) _ ((parts-UnitWords h1 (only vs-120) (one-UnitWords h1 vs-120 g-121)) .pg3) .0)) $
           rewrite ! 0 (λ (u : Val). ‵ (fat fullShare MUnitWords′.mir b1 o1 u)) (sym ((parts-UnitWords h1 (only vs-120) (one-UnitWords h1 vs-120 g-121)) .whole-is)) refl $
           use1 W (‵ (cellAt fullShare (R-UnitWords .mir) ((only vs-120) ∷ []) b1 o1)) (W .laws .at-raw fullShare MUnitWords′.mir b1 o1 (only vs-120)) $
           closes ! tt R-UnitWords h1 ((only vs-120) ∷ []) b1 o1 $
           from-18 zs-8 len-9 p-4 w-3 e-6 is-7 left1 good u-24 g-25 u-28 g-29 left2 u-118 g-119 ((parts-UnitWords h1 (only vs-120) (one-UnitWords h1 vs-120 g-121)) .pu3) ((parts-UnitWords h1 (only vs-120) (one-UnitWords h1 vs-120 g-121)) .pg3)))
 
-      from-16 : (zs-8 : List ℕ) (len-9 : length zs-8 ≡ length h5) (p-4 : SReceived.Received) (w-3 : Val) (e-6 : (p-4 ≡ receivedBy (readOf h5)) × (zs-8 ≡ h5)) (is-7 : Is R-Received p-4 (w-3 ∷ [])) (left1 : Holds (not (p-4 .barred))) (good : Holds (not (not (eqb (length h3) 5)))) (u-24 : Val) (g-25 : Is R-SettingsWords (h1 .settings) (u-24 ∷ [])) (u-28 : Val) (g-29 : Is R-StateWords (h1 .state) (u-28 ∷ [])) (left2 : Holds (not (p-4 .announces))) → Sq W (‵ (fobs γ1 (R-UnitWords .coded .code h1)) ∷ ‵ (fbor κ1 (Body (mem R-UnitWords) b1 o1 γ1)) ∷ ‵ (flft κ1 q1) ∷ ‵ (MutSlice (named 4) κ5 R-u8 .own (x5 zs-8) ((sliceVal (b5, o5) (length h5)) ∷ [])) ∷ ‵ (flft κ5 q5) ∷ ‵ (flft κ8 q8) ∷ ‵ (flft κ4 q4) ∷ ‵ (flft κ3 q3) ∷ ‵ (flft κ2 q2) ∷ ‵ (ftrue) ∷ ‵ (fobs γ8 (R-AnswerWords .coded .code h8)) ∷ ‵ (fbor κ8 (Body (mem R-AnswerWords) b8 o8 γ8)) ∷ ‵ (R-Stamp .own h7 (u7 ∷ [])) ∷ ‵ (R-u64 .own h6 (u6 ∷ [])) ∷ ‵ (fobs γ4 (R-Watch .coded .code h4)) ∷ ‵ (fbor κ4 (Body (mem R-Watch) b4 o4 γ4)) ∷ ‵ (fobs γ3 (codedHoleys R-MasterWords .code (heres R-MasterWords h3))) ∷ ‵ (fbor κ3 (Held R-MasterWords (length h3) b3 o3 γ3)) ∷ ‵ (at-slice R-MasterWords (x3 h3) ((sliceVal (b3, o3) (length h3)) ∷ [])) ∷ ‵ (fobs γ2 (R-Servo .coded .code h2)) ∷ ‵ (fbor κ2 (Body (mem R-Servo) b2 o2 γ2)) ∷ ‵ (froom (tyRef erased mut (pointee (R-u8x128 .written))) l61 0) ∷ ‵ (fdies (tyRef erased mut (pointee (R-u8x128 .written))) l61) ∷ ‵ (froom (tyRef erased mut (pointee (R-i32x128 .written))) l60 0) ∷ ‵ (fdies (tyRef erased mut (pointee (R-i32x128 .written))) l60) ∷ ‵ (froom (tyRef erased mut (pointee (R-i64x128 .written))) l59 0) ∷ ‵ (fdies (tyRef erased mut (pointee (R-i64x128 .written))) l59) ∷ ‵ (froom MHead′.mir l58 0) ∷ ‵ (fdies MHead′.mir l58) ∷ ‵ (froom MAnswerWords′.mir l57 0) ∷ ‵ (fdies MAnswerWords′.mir l57) ∷ ‵ (froom MAnswerWords′.mir l56 0) ∷ ‵ (fdies MAnswerWords′.mir l56) ∷ ‵ (froom (tyRef erased mut (pointee (R-u8x128 .written))) l55 0) ∷ ‵ (fdies (tyRef erased mut (pointee (R-u8x128 .written))) l55) ∷ ‵ (froom (tyRef erased mut (pointee (R-i32x128 .written))) l54 0) ∷ ‵ (fdies (tyRef erased mut (pointee (R-i32x128 .written))) l54) ∷ ‵ (froom (tyRef erased mut (pointee (R-i64x128 .written))) l53 0) ∷ ‵ (fdies (tyRef erased mut (pointee (R-i64x128 .written))) l53) ∷ ‵ (froom MHead′.mir l52 0) ∷ ‵ (fdies MHead′.mir l52) ∷ ‵ (froom tyPtr l51 0) ∷ ‵ (fdies tyPtr l51) ∷ ‵ (froom tyPtr l50 0) ∷ ‵ (fdies tyPtr l50) ∷ ‵ (froom (tyInt w64) l49 0) ∷ ‵ (fdies (tyInt w64) l49) ∷ ‵ (froom MAnswerWords′.mir l48 0) ∷ ‵ (fdies MAnswerWords′.mir l48) ∷ ‵ (froom tyBool l47 0) ∷ ‵ (fdies tyBool l47) ∷ ‵ (froom tyPtr l46 0) ∷ ‵ (fdies tyPtr l46) ∷ ‵ (froom tyPtr l45 0) ∷ ‵ (fdies tyPtr l45) ∷ ‵ (froom tyPtr l44 0) ∷ ‵ (fdies tyPtr l44) ∷ ‵ (froom tyPtr l43 0) ∷ ‵ (fdies tyPtr l43) ∷ ‵ (froom MMasterWords′.mir l42 0) ∷ ‵ (fdies MMasterWords′.mir l42) ∷ ‵ (froom tyPtr l41 0) ∷ ‵ (fdies tyPtr l41) ∷ ‵ (froom MAnswerWords′.mir l40 0) ∷ ‵ (fdies MAnswerWords′.mir l40) ∷ ‵ (froom (tyInt w64) l39 0) ∷ ‵ (fdies (tyInt w64) l39) ∷ ‵ (froom MAnswerWords′.mir l38 0) ∷ ‵ (fdies MAnswerWords′.mir l38) ∷ ‵ (froom tyBool l37 0) ∷ ‵ (fdies tyBool l37) ∷ ‵ (froom (sliceTy (tyRef erased mut (tyInt w8))) l36 0) ∷ ‵ (fdies (sliceTy (tyRef erased mut (tyInt w8))) l36) ∷ ‵ (froom (tyRef erased mut (tyInt w8)) l35 0) ∷ ‵ (fdies (tyRef erased mut (tyInt w8)) l35) ∷ ‵ (froom tyBool l34 0) ∷ ‵ (fdies tyBool l34) ∷ ‵ (froom MServo′.mir l33 0) ∷ ‵ (fdies MServo′.mir l33) ∷ ‵ (froom MServo′.mir l32 0) ∷ ‵ (fdies MServo′.mir l32) ∷ ‵ (froom tyBool l31 0) ∷ ‵ (fdies tyBool l31) ∷ ‵ (froom MTold′.mir l30 0) ∷ ‵ (fdies MTold′.mir l30) ∷ ‵ (froom MDelaysWords′.mir l29 0) ∷ ‵ (fdies MDelaysWords′.mir l29) ∷ ‵ (froom MHalvesWords′.mir l28 0) ∷ ‵ (fdies MHalvesWords′.mir l28) ∷ ‵ (froom MEmptied′.mir l27 0) ∷ ‵ (fdies MEmptied′.mir l27) ∷ ‵ (froom tyBool l26 0) ∷ ‵ (fdies tyBool l26) ∷ ‵ (froom MHeld′.mir l25 0) ∷ ‵ (fdies MHeld′.mir l25) ∷ ‵ (froom MMasterWords′.mir l24 0) ∷ ‵ (fdies MMasterWords′.mir l24) ∷ ‵ (froom (tyInt w64) l23 0) ∷ ‵ (fdies (tyInt w64) l23) ∷ ‵ (froom tyBool l22 0) ∷ ‵ (fdies tyBool l22) ∷ ‵ (froom MSeat′.mir l21 0) ∷ ‵ (fdies MSeat′.mir l21) ∷ ‵ (froom MLooked′.mir l20 0) ∷ ‵ (fdies MLooked′.mir l20) ∷ ‵ (froom MLooked′.mir l19 0) ∷ ‵ (fdies MLooked′.mir l19) ∷ ‵ (froom MLooked′.mir l18 0) ∷ ‵ (fdies MLooked′.mir l18) ∷ ‵ (froom MLooked′.mir l17 0) ∷ ‵ (fdies MLooked′.mir l17) ∷ ‵ (froom MLooked′.mir l16 0) ∷ ‵ (fdies MLooked′.mir l16) ∷ ‵ (froom (tyInt w32) l15 0) ∷ ‵ (fdies (tyInt w32) l15) ∷ ‵ (froom tyBool l14 0) ∷ ‵ (fdies tyBool l14) ∷ ‵ (fat fullShare MStateWords′.mir l13 0 u-28) ∷ ‵ (fdies MStateWords′.mir l13) ∷ ‵ (fat fullShare MSettingsWords′.mir l12 0 u-24) ∷ ‵ (fdies MSettingsWords′.mir l12) ∷ ‵ (fat fullShare MMessage′.mir l11 0 ((parts-Received p-4 w-3 is-7) .pu0)) ∷ ‵ (fdies MMessage′.mir l11) ∷ ‵ (froom tyBool l10 0) ∷ ‵ (fdies tyBool l10) ∷ ‵ (froom MReceived′.mir l9 0) ∷ ‵ (fdies MReceived′.mir l9) ∷ ‵ (fat fullShare (tyRef (named 5) mut (pointee (R-AnswerWords .written))) l8 0 (vptr b8 o8)) ∷ ‵ (fdies (tyRef (named 5) mut (pointee (R-AnswerWords .written))) l8) ∷ ‵ (fat fullShare MStamp′.mir l7 0 u7) ∷ ‵ (fdies MStamp′.mir l7) ∷ ‵ (fat fullShare (tyInt w64) l6 0 u6) ∷ ‵ (fdies (tyInt w64) l6) ∷ ‵ (froom (sliceTy (tyRef (named 4) mut (tyInt w8))) l5 0) ∷ ‵ (fdies (sliceTy (tyRef (named 4) mut (tyInt w8))) l5) ∷ ‵ (fat fullShare (tyRef (named 3) mut (pointee (R-Watch .written))) l4 0 (vptr b4 o4)) ∷ ‵ (fdies (tyRef (named 3) mut (pointee (R-Watch .written))) l4) ∷ ‵ (froom (sliceTy (tyRef (named 2) mut (pointee (R-MasterWords .written)))) l3 0) ∷ ‵ (fdies (sliceTy (tyRef (named 2) mut (pointee (R-MasterWords .written)))) l3) ∷ ‵ (fat fullShare (tyRef (named 1) mut (pointee (R-Servo .written))) l2 0 (vptr b2 o2)) ∷ ‵ (fdies (tyRef (named 1) mut (pointee (R-Servo .written))) l2) ∷ ‵ (fat fullShare (tyRef (named 0) mut (pointee (R-UnitWords .written))) l1 0 (vptr b1 o1)) ∷ ‵ (fdies (tyRef (named 0) mut (pointee (R-UnitWords .written))) l1) ∷ ‵ (froom tyUnit l0 0) ∷ ‵ (fdies tyUnit l0) ∷ []) (runs C Λ En mir′.t-16 (atRet En Post))
+      from-16 : (zs-8 : List ℕ) (len-9 : length zs-8 ≡ length h5) (p-4 : SReceived.Received) (w-3 : Val) (e-6 : (p-4 ≡ receivedBy (readOf h5)) × (zs-8 ≡ h5)) (is-7 : Is R-Received p-4 (w-3 ∷ [])) (left1 : Holds (not (p-4 .barred))) (good : Holds (not (not (eqb (length h3) 5)))) (u-24 : Val) (g-25 : Is R-SettingsWords (h1 .settings) (u-24 ∷ [])) (u-28 : Val) (g-29 : Is R-StateWords (h1 .state) (u-28 ∷ [])) (left2 : Holds (not (p-4 .announces))) → Sq W (‵ (fobs γ1 (R-UnitWords .coded .code h1)) ∷ ‵ (fbor κ1 (Body (mem R-UnitWords) b1 o1 γ1)) ∷ ‵ (flft κ1 q1) ∷ ‵ (MutSlice (named 4) κ5 R-u8 .own (x5 zs-8) ((sliceVal (b5, o5) (length h5)) ∷ [])) ∷ ‵ (flft κ5 q5) ∷ ‵ (flft κ8 q8) ∷ ‵ (flft κ4 q4) ∷ ‵ (flft κ3 q3) ∷ ‵ (flft κ2 q2) ∷ ‵ (ftrue) ∷ ‵ (fobs γ8 (R-AnswerWords .coded .code h8)) ∷ ‵ (fbor κ8 (Body (mem R-AnswerWords) b8 o8 γ8)) ∷ ‵ (R-Stamp .own h7 (u7 ∷ [])) ∷ ‵ (R-u64 .own h6 (u6 ∷ [])) ∷ ‵ (fobs γ4 (R-Watch .coded .code h4)) ∷ ‵ (fbor κ4 (Body (mem R-Watch) b4 o4 γ4)) ∷ ‵ (fobs γ3 (codedHoleys R-MasterWords .code (heres R-MasterWords h3))) ∷ ‵ (fbor κ3 (Held R-MasterWords (length h3) b3 o3 γ3)) ∷ ‵ (at-slice R-MasterWords (x3 h3) ((sliceVal (b3, o3) (length h3)) ∷ [])) ∷ ‵ (fobs γ2 (R-Servo .coded .code h2)) ∷ ‵ (fbor κ2 (Body (mem R-Servo) b2 o2 γ2)) ∷ ‵ (froom (tyRef erased mut (pointee (R-u8x128 .written))) l65 0) ∷ ‵ (fdies (tyRef erased mut (pointee (R-u8x128 .written))) l65) ∷ ‵ (froom (tyRef erased mut (pointee (R-i32x128 .written))) l64 0) ∷ ‵ (fdies (tyRef erased mut (pointee (R-i32x128 .written))) l64) ∷ ‵ (froom (tyRef erased mut (pointee (R-i64x128 .written))) l63 0) ∷ ‵ (fdies (tyRef erased mut (pointee (R-i64x128 .written))) l63) ∷ ‵ (froom MHead′.mir l62 0) ∷ ‵ (fdies MHead′.mir l62) ∷ ‵ (froom MAnswerWords′.mir l61 0) ∷ ‵ (fdies MAnswerWords′.mir l61) ∷ ‵ (froom MAnswerWords′.mir l60 0) ∷ ‵ (fdies MAnswerWords′.mir l60) ∷ ‵ (froom (tyRef erased mut (pointee (R-u8x128 .written))) l59 0) ∷ ‵ (fdies (tyRef erased mut (pointee (R-u8x128 .written))) l59) ∷ ‵ (froom (tyRef erased mut (pointee (R-i32x128 .written))) l58 0) ∷ ‵ (fdies (tyRef erased mut (pointee (R-i32x128 .written))) l58) ∷ ‵ (froom (tyRef erased mut (pointee (R-i64x128 .written))) l57 0) ∷ ‵ (fdies (tyRef erased mut (pointee (R-i64x128 .written))) l57) ∷ ‵ (froom MHead′.mir l56 0) ∷ ‵ (fdies MHead′.mir l56) ∷ ‵ (froom tyPtr l55 0) ∷ ‵ (fdies tyPtr l55) ∷ ‵ (froom tyPtr l54 0) ∷ ‵ (fdies tyPtr l54) ∷ ‵ (froom (tyInt w64) l53 0) ∷ ‵ (fdies (tyInt w64) l53) ∷ ‵ (froom MAnswerWords′.mir l52 0) ∷ ‵ (fdies MAnswerWords′.mir l52) ∷ ‵ (froom tyBool l51 0) ∷ ‵ (fdies tyBool l51) ∷ ‵ (froom tyPtr l50 0) ∷ ‵ (fdies tyPtr l50) ∷ ‵ (froom tyPtr l49 0) ∷ ‵ (fdies tyPtr l49) ∷ ‵ (froom tyPtr l48 0) ∷ ‵ (fdies tyPtr l48) ∷ ‵ (froom tyPtr l47 0) ∷ ‵ (fdies tyPtr l47) ∷ ‵ (froom MMasterWords′.mir l46 0) ∷ ‵ (fdies MMasterWords′.mir l46) ∷ ‵ (froom tyPtr l45 0) ∷ ‵ (fdies tyPtr l45) ∷ ‵ (froom MAnswerWords′.mir l44 0) ∷ ‵ (fdies MAnswerWords′.mir l44) ∷ ‵ (froom (tyInt w64) l43 0) ∷ ‵ (fdies (tyInt w64) l43) ∷ ‵ (froom MAnswerWords′.mir l42 0) ∷ ‵ (fdies MAnswerWords′.mir l42) ∷ ‵ (froom tyBool l41 0) ∷ ‵ (fdies tyBool l41) ∷ ‵ (froom (sliceTy (tyRef erased mut (tyInt w8))) l40 0) ∷ ‵ (fdies (sliceTy (tyRef erased mut (tyInt w8))) l40) ∷ ‵ (froom (tyRef erased mut (tyInt w8)) l39 0) ∷ ‵ (fdies (tyRef erased mut (tyInt w8)) l39) ∷ ‵ (froom (tyInt w16) l38 0) ∷ ‵ (fdies (tyInt w16) l38) ∷ ‵ (froom (tyInt w8) l37 0) ∷ ‵ (fdies (tyInt w8) l37) ∷ ‵ (froom MServo′.mir l36 0) ∷ ‵ (fdies MServo′.mir l36) ∷ ‵ (froom tyBool l35 0) ∷ ‵ (fdies tyBool l35) ∷ ‵ (froom tyBool l34 0) ∷ ‵ (fdies tyBool l34) ∷ ‵ (froom MAccepted′.mir l33 0) ∷ ‵ (fdies MAccepted′.mir l33) ∷ ‵ (froom MServo′.mir l32 0) ∷ ‵ (fdies MServo′.mir l32) ∷ ‵ (froom tyBool l31 0) ∷ ‵ (fdies tyBool l31) ∷ ‵ (froom MTold′.mir l30 0) ∷ ‵ (fdies MTold′.mir l30) ∷ ‵ (froom MDelaysWords′.mir l29 0) ∷ ‵ (fdies MDelaysWords′.mir l29) ∷ ‵ (froom MHalvesWords′.mir l28 0) ∷ ‵ (fdies MHalvesWords′.mir l28) ∷ ‵ (froom MEmptied′.mir l27 0) ∷ ‵ (fdies MEmptied′.mir l27) ∷ ‵ (froom tyBool l26 0) ∷ ‵ (fdies tyBool l26) ∷ ‵ (froom MHeld′.mir l25 0) ∷ ‵ (fdies MHeld′.mir l25) ∷ ‵ (froom MMasterWords′.mir l24 0) ∷ ‵ (fdies MMasterWords′.mir l24) ∷ ‵ (froom (tyInt w64) l23 0) ∷ ‵ (fdies (tyInt w64) l23) ∷ ‵ (froom tyBool l22 0) ∷ ‵ (fdies tyBool l22) ∷ ‵ (froom MSeat′.mir l21 0) ∷ ‵ (fdies MSeat′.mir l21) ∷ ‵ (froom MLooked′.mir l20 0) ∷ ‵ (fdies MLooked′.mir l20) ∷ ‵ (froom MLooked′.mir l19 0) ∷ ‵ (fdies MLooked′.mir l19) ∷ ‵ (froom MLooked′.mir l18 0) ∷ ‵ (fdies MLooked′.mir l18) ∷ ‵ (froom MLooked′.mir l17 0) ∷ ‵ (fdies MLooked′.mir l17) ∷ ‵ (froom MLooked′.mir l16 0) ∷ ‵ (fdies MLooked′.mir l16) ∷ ‵ (froom (tyInt w32) l15 0) ∷ ‵ (fdies (tyInt w32) l15) ∷ ‵ (froom tyBool l14 0) ∷ ‵ (fdies tyBool l14) ∷ ‵ (fat fullShare MStateWords′.mir l13 0 u-28) ∷ ‵ (fdies MStateWords′.mir l13) ∷ ‵ (fat fullShare MSettingsWords′.mir l12 0 u-24) ∷ ‵ (fdies MSettingsWords′.mir l12) ∷ ‵ (fat fullShare MMessage′.mir l11 0 ((parts-Received p-4 w-3 is-7) .pu0)) ∷ ‵ (fdies MMessage′.mir l11) ∷ ‵ (froom tyBool l10 0) ∷ ‵ (fdies tyBool l10) ∷ ‵ (froom MReceived′.mir l9 0) ∷ ‵ (fdies MReceived′.mir l9) ∷ ‵ (fat fullShare (tyRef (named 5) mut (pointee (R-AnswerWords .written))) l8 0 (vptr b8 o8)) ∷ ‵ (fdies (tyRef (named 5) mut (pointee (R-AnswerWords .written))) l8) ∷ ‵ (fat fullShare MStamp′.mir l7 0 u7) ∷ ‵ (fdies MStamp′.mir l7) ∷ ‵ (fat fullShare (tyInt w64) l6 0 u6) ∷ ‵ (fdies (tyInt w64) l6) ∷ ‵ (froom (sliceTy (tyRef (named 4) mut (tyInt w8))) l5 0) ∷ ‵ (fdies (sliceTy (tyRef (named 4) mut (tyInt w8))) l5) ∷ ‵ (fat fullShare (tyRef (named 3) mut (pointee (R-Watch .written))) l4 0 (vptr b4 o4)) ∷ ‵ (fdies (tyRef (named 3) mut (pointee (R-Watch .written))) l4) ∷ ‵ (froom (sliceTy (tyRef (named 2) mut (pointee (R-MasterWords .written)))) l3 0) ∷ ‵ (fdies (sliceTy (tyRef (named 2) mut (pointee (R-MasterWords .written)))) l3) ∷ ‵ (fat fullShare (tyRef (named 1) mut (pointee (R-Servo .written))) l2 0 (vptr b2 o2)) ∷ ‵ (fdies (tyRef (named 1) mut (pointee (R-Servo .written))) l2) ∷ ‵ (fat fullShare (tyRef (named 0) mut (pointee (R-UnitWords .written))) l1 0 (vptr b1 o1)) ∷ ‵ (fdies (tyRef (named 0) mut (pointee (R-UnitWords .written))) l1) ∷ ‵ (froom tyUnit l0 0) ∷ ‵ (fdies tyUnit l0) ∷ []) (runs C Λ En mir′.t-16 (atRet En Post))
       from-16 zs-8 len-9 p-4 w-3 e-6 is-7 left1 good u-24 g-25 u-28 g-29 left2 =
           opens ! tt R-UnitWords {h = h1} b1 o1 (λ vs-116.
           move ! (1 ∷ []) $
@@ -2912,24 +2914,24 @@ module _ {M : Type 1} (𝓤 : URA M) (H : Heap 𝓤) (A : Atoms 𝓤) (W : Given
           move ! (1 ∷ []) $
           use1 W (‵ (fat fullShare MUnitWords′.mir b1 o1 (only vs-116))) (W .laws .raw-at fullShare MUnitWords′.mir b1 o1 (only vs-116)) $
           rewrite ! 0 (λ (u : Val). ‵ (fat fullShare MUnitWords′.mir b1 o1 u)) ((parts-UnitWords h1 (only vs-116) (one-UnitWords h1 vs-116 g-117)) .whole-is) refl $
-          assigns ! (of-opd ! (load ! (from ! (hop ! (look ! 143 refl) (fld ! {τ = MHalvesWords′.mir} {d = off-UnitWords-2} field-UnitWords-2 (stop !)))) (look-in ! 0 (sub ! {ν = name-of MUnitWords′.mir} {τs = tys-of MUnitWords′.mir} 2 {τ = MHalvesWords′.mir} {d = off-UnitWords-2} field-UnitWords-2 (whole !))))) (from ! (stop !)) (init ! 89 refl (lawful-HalvesWords 𝓤 H A W .typed (h1 .halves) _ ((parts-UnitWords h1 (only vs-116) (one-UnitWords h1 vs-116 g-117)) .pg2) .0)) $
+          assigns ! (of-opd ! (load ! (from ! (hop ! (look ! 151 refl) (fld ! {τ = MHalvesWords′.mir} {d = off-UnitWords-2} field-UnitWords-2 (stop !)))) (look-in ! 0 (sub ! {ν = name-of MUnitWords′.mir} {τs = tys-of MUnitWords′.mir} 2 {τ = MHalvesWords′.mir} {d = off-UnitWords-2} field-UnitWords-2 (whole !))))) (from ! (stop !)) (init ! 97 refl (lawful-HalvesWords 𝓤 H A W .typed (h1 .halves) _ ((parts-UnitWords h1 (only vs-116) (one-UnitWords h1 vs-116 g-117)) .pg2) .0)) $
           rewrite ! 0 (λ (u : Val). ‵ (fat fullShare MUnitWords′.mir b1 o1 u)) (sym ((parts-UnitWords h1 (only vs-116) (one-UnitWords h1 vs-116 g-117)) .whole-is)) refl $
           use1 W (‵ (cellAt fullShare (R-UnitWords .mir) ((only vs-116) ∷ []) b1 o1)) (W .laws .at-raw fullShare MUnitWords′.mir b1 o1 (only vs-116)) $
           closes ! tt R-UnitWords h1 ((only vs-116) ∷ []) b1 o1 $
           from-17 zs-8 len-9 p-4 w-3 e-6 is-7 left1 good u-24 g-25 u-28 g-29 left2 ((parts-UnitWords h1 (only vs-116) (one-UnitWords h1 vs-116 g-117)) .pu2) ((parts-UnitWords h1 (only vs-116) (one-UnitWords h1 vs-116 g-117)) .pg2)))
 
-      from-13 : (zs-8 : List ℕ) (len-9 : length zs-8 ≡ length h5) (p-4 : SReceived.Received) (w-3 : Val) (e-6 : (p-4 ≡ receivedBy (readOf h5)) × (zs-8 ≡ h5)) (is-7 : Is R-Received p-4 (w-3 ∷ [])) (left1 : Holds (not (p-4 .barred))) (good : Holds (not (not (eqb (length h3) 5)))) (u-24 : Val) (g-25 : Is R-SettingsWords (h1 .settings) (u-24 ∷ [])) (u-28 : Val) (g-29 : Is R-StateWords (h1 .state) (u-28 ∷ [])) → Sq W (‵ (fobs γ1 (R-UnitWords .coded .code h1)) ∷ ‵ (fbor κ1 (Body (mem R-UnitWords) b1 o1 γ1)) ∷ ‵ (flft κ1 q1) ∷ ‵ (MutSlice (named 4) κ5 R-u8 .own (x5 zs-8) ((sliceVal (b5, o5) (length h5)) ∷ [])) ∷ ‵ (flft κ5 q5) ∷ ‵ (flft κ8 q8) ∷ ‵ (flft κ4 q4) ∷ ‵ (flft κ3 q3) ∷ ‵ (flft κ2 q2) ∷ ‵ (ftrue) ∷ ‵ (fobs γ8 (R-AnswerWords .coded .code h8)) ∷ ‵ (fbor κ8 (Body (mem R-AnswerWords) b8 o8 γ8)) ∷ ‵ (R-Stamp .own h7 (u7 ∷ [])) ∷ ‵ (R-u64 .own h6 (u6 ∷ [])) ∷ ‵ (fobs γ4 (R-Watch .coded .code h4)) ∷ ‵ (fbor κ4 (Body (mem R-Watch) b4 o4 γ4)) ∷ ‵ (fobs γ3 (codedHoleys R-MasterWords .code (heres R-MasterWords h3))) ∷ ‵ (fbor κ3 (Held R-MasterWords (length h3) b3 o3 γ3)) ∷ ‵ (at-slice R-MasterWords (x3 h3) ((sliceVal (b3, o3) (length h3)) ∷ [])) ∷ ‵ (fobs γ2 (R-Servo .coded .code h2)) ∷ ‵ (fbor κ2 (Body (mem R-Servo) b2 o2 γ2)) ∷ ‵ (froom (tyRef erased mut (pointee (R-u8x128 .written))) l61 0) ∷ ‵ (fdies (tyRef erased mut (pointee (R-u8x128 .written))) l61) ∷ ‵ (froom (tyRef erased mut (pointee (R-i32x128 .written))) l60 0) ∷ ‵ (fdies (tyRef erased mut (pointee (R-i32x128 .written))) l60) ∷ ‵ (froom (tyRef erased mut (pointee (R-i64x128 .written))) l59 0) ∷ ‵ (fdies (tyRef erased mut (pointee (R-i64x128 .written))) l59) ∷ ‵ (froom MHead′.mir l58 0) ∷ ‵ (fdies MHead′.mir l58) ∷ ‵ (froom MAnswerWords′.mir l57 0) ∷ ‵ (fdies MAnswerWords′.mir l57) ∷ ‵ (froom MAnswerWords′.mir l56 0) ∷ ‵ (fdies MAnswerWords′.mir l56) ∷ ‵ (froom (tyRef erased mut (pointee (R-u8x128 .written))) l55 0) ∷ ‵ (fdies (tyRef erased mut (pointee (R-u8x128 .written))) l55) ∷ ‵ (froom (tyRef erased mut (pointee (R-i32x128 .written))) l54 0) ∷ ‵ (fdies (tyRef erased mut (pointee (R-i32x128 .written))) l54) ∷ ‵ (froom (tyRef erased mut (pointee (R-i64x128 .written))) l53 0) ∷ ‵ (fdies (tyRef erased mut (pointee (R-i64x128 .written))) l53) ∷ ‵ (froom MHead′.mir l52 0) ∷ ‵ (fdies MHead′.mir l52) ∷ ‵ (froom tyPtr l51 0) ∷ ‵ (fdies tyPtr l51) ∷ ‵ (froom tyPtr l50 0) ∷ ‵ (fdies tyPtr l50) ∷ ‵ (froom (tyInt w64) l49 0) ∷ ‵ (fdies (tyInt w64) l49) ∷ ‵ (froom MAnswerWords′.mir l48 0) ∷ ‵ (fdies MAnswerWords′.mir l48) ∷ ‵ (froom tyBool l47 0) ∷ ‵ (fdies tyBool l47) ∷ ‵ (froom tyPtr l46 0) ∷ ‵ (fdies tyPtr l46) ∷ ‵ (froom tyPtr l45 0) ∷ ‵ (fdies tyPtr l45) ∷ ‵ (froom tyPtr l44 0) ∷ ‵ (fdies tyPtr l44) ∷ ‵ (froom tyPtr l43 0) ∷ ‵ (fdies tyPtr l43) ∷ ‵ (froom MMasterWords′.mir l42 0) ∷ ‵ (fdies MMasterWords′.mir l42) ∷ ‵ (froom tyPtr l41 0) ∷ ‵ (fdies tyPtr l41) ∷ ‵ (froom MAnswerWords′.mir l40 0) ∷ ‵ (fdies MAnswerWords′.mir l40) ∷ ‵ (froom (tyInt w64) l39 0) ∷ ‵ (fdies (tyInt w64) l39) ∷ ‵ (froom MAnswerWords′.mir l38 0) ∷ ‵ (fdies MAnswerWords′.mir l38) ∷ ‵ (froom tyBool l37 0) ∷ ‵ (fdies tyBool l37) ∷ ‵ (froom (sliceTy (tyRef erased mut (tyInt w8))) l36 0) ∷ ‵ (fdies (sliceTy (tyRef erased mut (tyInt w8))) l36) ∷ ‵ (froom (tyRef erased mut (tyInt w8)) l35 0) ∷ ‵ (fdies (tyRef erased mut (tyInt w8)) l35) ∷ ‵ (froom tyBool l34 0) ∷ ‵ (fdies tyBool l34) ∷ ‵ (froom MServo′.mir l33 0) ∷ ‵ (fdies MServo′.mir l33) ∷ ‵ (froom MServo′.mir l32 0) ∷ ‵ (fdies MServo′.mir l32) ∷ ‵ (froom tyBool l31 0) ∷ ‵ (fdies tyBool l31) ∷ ‵ (froom MTold′.mir l30 0) ∷ ‵ (fdies MTold′.mir l30) ∷ ‵ (froom MDelaysWords′.mir l29 0) ∷ ‵ (fdies MDelaysWords′.mir l29) ∷ ‵ (froom MHalvesWords′.mir l28 0) ∷ ‵ (fdies MHalvesWords′.mir l28) ∷ ‵ (froom MEmptied′.mir l27 0) ∷ ‵ (fdies MEmptied′.mir l27) ∷ ‵ (froom tyBool l26 0) ∷ ‵ (fdies tyBool l26) ∷ ‵ (froom MHeld′.mir l25 0) ∷ ‵ (fdies MHeld′.mir l25) ∷ ‵ (froom MMasterWords′.mir l24 0) ∷ ‵ (fdies MMasterWords′.mir l24) ∷ ‵ (froom (tyInt w64) l23 0) ∷ ‵ (fdies (tyInt w64) l23) ∷ ‵ (froom tyBool l22 0) ∷ ‵ (fdies tyBool l22) ∷ ‵ (froom MSeat′.mir l21 0) ∷ ‵ (fdies MSeat′.mir l21) ∷ ‵ (froom MLooked′.mir l20 0) ∷ ‵ (fdies MLooked′.mir l20) ∷ ‵ (froom MLooked′.mir l19 0) ∷ ‵ (fdies MLooked′.mir l19) ∷ ‵ (froom MLooked′.mir l18 0) ∷ ‵ (fdies MLooked′.mir l18) ∷ ‵ (froom MLooked′.mir l17 0) ∷ ‵ (fdies MLooked′.mir l17) ∷ ‵ (froom MLooked′.mir l16 0) ∷ ‵ (fdies MLooked′.mir l16) ∷ ‵ (froom (tyInt w32) l15 0) ∷ ‵ (fdies (tyInt w32) l15) ∷ ‵ (froom tyBool l14 0) ∷ ‵ (fdies tyBool l14) ∷ ‵ (fat fullShare MStateWords′.mir l13 0 u-28) ∷ ‵ (fdies MStateWords′.mir l13) ∷ ‵ (fat fullShare MSettingsWords′.mir l12 0 u-24) ∷ ‵ (fdies MSettingsWords′.mir l12) ∷ ‵ (fat fullShare MMessage′.mir l11 0 ((parts-Received p-4 w-3 is-7) .pu0)) ∷ ‵ (fdies MMessage′.mir l11) ∷ ‵ (froom tyBool l10 0) ∷ ‵ (fdies tyBool l10) ∷ ‵ (fat fullShare MReceived′.mir l9 0 (vstruct (ofList ((parts-Received p-4 w-3 is-7) .pu0 ∷ (parts-Received p-4 w-3 is-7) .pu1 ∷ (parts-Received p-4 w-3 is-7) .pu2 ∷ (parts-Received p-4 w-3 is-7) .pu3 ∷ [])))) ∷ ‵ (fdies MReceived′.mir l9) ∷ ‵ (fat fullShare (tyRef (named 5) mut (pointee (R-AnswerWords .written))) l8 0 (vptr b8 o8)) ∷ ‵ (fdies (tyRef (named 5) mut (pointee (R-AnswerWords .written))) l8) ∷ ‵ (fat fullShare MStamp′.mir l7 0 u7) ∷ ‵ (fdies MStamp′.mir l7) ∷ ‵ (fat fullShare (tyInt w64) l6 0 u6) ∷ ‵ (fdies (tyInt w64) l6) ∷ ‵ (froom (sliceTy (tyRef (named 4) mut (tyInt w8))) l5 0) ∷ ‵ (fdies (sliceTy (tyRef (named 4) mut (tyInt w8))) l5) ∷ ‵ (fat fullShare (tyRef (named 3) mut (pointee (R-Watch .written))) l4 0 (vptr b4 o4)) ∷ ‵ (fdies (tyRef (named 3) mut (pointee (R-Watch .written))) l4) ∷ ‵ (fat fullShare (sliceTy (tyRef (named 2) mut (pointee (R-MasterWords .written)))) l3 0 (sliceVal (b3, o3) (length h3))) ∷ ‵ (fdies (sliceTy (tyRef (named 2) mut (pointee (R-MasterWords .written)))) l3) ∷ ‵ (fat fullShare (tyRef (named 1) mut (pointee (R-Servo .written))) l2 0 (vptr b2 o2)) ∷ ‵ (fdies (tyRef (named 1) mut (pointee (R-Servo .written))) l2) ∷ ‵ (fat fullShare (tyRef (named 0) mut (pointee (R-UnitWords .written))) l1 0 (vptr b1 o1)) ∷ ‵ (fdies (tyRef (named 0) mut (pointee (R-UnitWords .written))) l1) ∷ ‵ (froom tyUnit l0 0) ∷ ‵ (fdies tyUnit l0) ∷ []) (runs C Λ En mir′.t-13 (atRet En Post))
+      from-13 : (zs-8 : List ℕ) (len-9 : length zs-8 ≡ length h5) (p-4 : SReceived.Received) (w-3 : Val) (e-6 : (p-4 ≡ receivedBy (readOf h5)) × (zs-8 ≡ h5)) (is-7 : Is R-Received p-4 (w-3 ∷ [])) (left1 : Holds (not (p-4 .barred))) (good : Holds (not (not (eqb (length h3) 5)))) (u-24 : Val) (g-25 : Is R-SettingsWords (h1 .settings) (u-24 ∷ [])) (u-28 : Val) (g-29 : Is R-StateWords (h1 .state) (u-28 ∷ [])) → Sq W (‵ (fobs γ1 (R-UnitWords .coded .code h1)) ∷ ‵ (fbor κ1 (Body (mem R-UnitWords) b1 o1 γ1)) ∷ ‵ (flft κ1 q1) ∷ ‵ (MutSlice (named 4) κ5 R-u8 .own (x5 zs-8) ((sliceVal (b5, o5) (length h5)) ∷ [])) ∷ ‵ (flft κ5 q5) ∷ ‵ (flft κ8 q8) ∷ ‵ (flft κ4 q4) ∷ ‵ (flft κ3 q3) ∷ ‵ (flft κ2 q2) ∷ ‵ (ftrue) ∷ ‵ (fobs γ8 (R-AnswerWords .coded .code h8)) ∷ ‵ (fbor κ8 (Body (mem R-AnswerWords) b8 o8 γ8)) ∷ ‵ (R-Stamp .own h7 (u7 ∷ [])) ∷ ‵ (R-u64 .own h6 (u6 ∷ [])) ∷ ‵ (fobs γ4 (R-Watch .coded .code h4)) ∷ ‵ (fbor κ4 (Body (mem R-Watch) b4 o4 γ4)) ∷ ‵ (fobs γ3 (codedHoleys R-MasterWords .code (heres R-MasterWords h3))) ∷ ‵ (fbor κ3 (Held R-MasterWords (length h3) b3 o3 γ3)) ∷ ‵ (at-slice R-MasterWords (x3 h3) ((sliceVal (b3, o3) (length h3)) ∷ [])) ∷ ‵ (fobs γ2 (R-Servo .coded .code h2)) ∷ ‵ (fbor κ2 (Body (mem R-Servo) b2 o2 γ2)) ∷ ‵ (froom (tyRef erased mut (pointee (R-u8x128 .written))) l65 0) ∷ ‵ (fdies (tyRef erased mut (pointee (R-u8x128 .written))) l65) ∷ ‵ (froom (tyRef erased mut (pointee (R-i32x128 .written))) l64 0) ∷ ‵ (fdies (tyRef erased mut (pointee (R-i32x128 .written))) l64) ∷ ‵ (froom (tyRef erased mut (pointee (R-i64x128 .written))) l63 0) ∷ ‵ (fdies (tyRef erased mut (pointee (R-i64x128 .written))) l63) ∷ ‵ (froom MHead′.mir l62 0) ∷ ‵ (fdies MHead′.mir l62) ∷ ‵ (froom MAnswerWords′.mir l61 0) ∷ ‵ (fdies MAnswerWords′.mir l61) ∷ ‵ (froom MAnswerWords′.mir l60 0) ∷ ‵ (fdies MAnswerWords′.mir l60) ∷ ‵ (froom (tyRef erased mut (pointee (R-u8x128 .written))) l59 0) ∷ ‵ (fdies (tyRef erased mut (pointee (R-u8x128 .written))) l59) ∷ ‵ (froom (tyRef erased mut (pointee (R-i32x128 .written))) l58 0) ∷ ‵ (fdies (tyRef erased mut (pointee (R-i32x128 .written))) l58) ∷ ‵ (froom (tyRef erased mut (pointee (R-i64x128 .written))) l57 0) ∷ ‵ (fdies (tyRef erased mut (pointee (R-i64x128 .written))) l57) ∷ ‵ (froom MHead′.mir l56 0) ∷ ‵ (fdies MHead′.mir l56) ∷ ‵ (froom tyPtr l55 0) ∷ ‵ (fdies tyPtr l55) ∷ ‵ (froom tyPtr l54 0) ∷ ‵ (fdies tyPtr l54) ∷ ‵ (froom (tyInt w64) l53 0) ∷ ‵ (fdies (tyInt w64) l53) ∷ ‵ (froom MAnswerWords′.mir l52 0) ∷ ‵ (fdies MAnswerWords′.mir l52) ∷ ‵ (froom tyBool l51 0) ∷ ‵ (fdies tyBool l51) ∷ ‵ (froom tyPtr l50 0) ∷ ‵ (fdies tyPtr l50) ∷ ‵ (froom tyPtr l49 0) ∷ ‵ (fdies tyPtr l49) ∷ ‵ (froom tyPtr l48 0) ∷ ‵ (fdies tyPtr l48) ∷ ‵ (froom tyPtr l47 0) ∷ ‵ (fdies tyPtr l47) ∷ ‵ (froom MMasterWords′.mir l46 0) ∷ ‵ (fdies MMasterWords′.mir l46) ∷ ‵ (froom tyPtr l45 0) ∷ ‵ (fdies tyPtr l45) ∷ ‵ (froom MAnswerWords′.mir l44 0) ∷ ‵ (fdies MAnswerWords′.mir l44) ∷ ‵ (froom (tyInt w64) l43 0) ∷ ‵ (fdies (tyInt w64) l43) ∷ ‵ (froom MAnswerWords′.mir l42 0) ∷ ‵ (fdies MAnswerWords′.mir l42) ∷ ‵ (froom tyBool l41 0) ∷ ‵ (fdies tyBool l41) ∷ ‵ (froom (sliceTy (tyRef erased mut (tyInt w8))) l40 0) ∷ ‵ (fdies (sliceTy (tyRef erased mut (tyInt w8))) l40) ∷ ‵ (froom (tyRef erased mut (tyInt w8)) l39 0) ∷ ‵ (fdies (tyRef erased mut (tyInt w8)) l39) ∷ ‵ (froom (tyInt w16) l38 0) ∷ ‵ (fdies (tyInt w16) l38) ∷ ‵ (froom (tyInt w8) l37 0) ∷ ‵ (fdies (tyInt w8) l37) ∷ ‵ (froom MServo′.mir l36 0) ∷ ‵ (fdies MServo′.mir l36) ∷ ‵ (froom tyBool l35 0) ∷ ‵ (fdies tyBool l35) ∷ ‵ (froom tyBool l34 0) ∷ ‵ (fdies tyBool l34) ∷ ‵ (froom MAccepted′.mir l33 0) ∷ ‵ (fdies MAccepted′.mir l33) ∷ ‵ (froom MServo′.mir l32 0) ∷ ‵ (fdies MServo′.mir l32) ∷ ‵ (froom tyBool l31 0) ∷ ‵ (fdies tyBool l31) ∷ ‵ (froom MTold′.mir l30 0) ∷ ‵ (fdies MTold′.mir l30) ∷ ‵ (froom MDelaysWords′.mir l29 0) ∷ ‵ (fdies MDelaysWords′.mir l29) ∷ ‵ (froom MHalvesWords′.mir l28 0) ∷ ‵ (fdies MHalvesWords′.mir l28) ∷ ‵ (froom MEmptied′.mir l27 0) ∷ ‵ (fdies MEmptied′.mir l27) ∷ ‵ (froom tyBool l26 0) ∷ ‵ (fdies tyBool l26) ∷ ‵ (froom MHeld′.mir l25 0) ∷ ‵ (fdies MHeld′.mir l25) ∷ ‵ (froom MMasterWords′.mir l24 0) ∷ ‵ (fdies MMasterWords′.mir l24) ∷ ‵ (froom (tyInt w64) l23 0) ∷ ‵ (fdies (tyInt w64) l23) ∷ ‵ (froom tyBool l22 0) ∷ ‵ (fdies tyBool l22) ∷ ‵ (froom MSeat′.mir l21 0) ∷ ‵ (fdies MSeat′.mir l21) ∷ ‵ (froom MLooked′.mir l20 0) ∷ ‵ (fdies MLooked′.mir l20) ∷ ‵ (froom MLooked′.mir l19 0) ∷ ‵ (fdies MLooked′.mir l19) ∷ ‵ (froom MLooked′.mir l18 0) ∷ ‵ (fdies MLooked′.mir l18) ∷ ‵ (froom MLooked′.mir l17 0) ∷ ‵ (fdies MLooked′.mir l17) ∷ ‵ (froom MLooked′.mir l16 0) ∷ ‵ (fdies MLooked′.mir l16) ∷ ‵ (froom (tyInt w32) l15 0) ∷ ‵ (fdies (tyInt w32) l15) ∷ ‵ (froom tyBool l14 0) ∷ ‵ (fdies tyBool l14) ∷ ‵ (fat fullShare MStateWords′.mir l13 0 u-28) ∷ ‵ (fdies MStateWords′.mir l13) ∷ ‵ (fat fullShare MSettingsWords′.mir l12 0 u-24) ∷ ‵ (fdies MSettingsWords′.mir l12) ∷ ‵ (fat fullShare MMessage′.mir l11 0 ((parts-Received p-4 w-3 is-7) .pu0)) ∷ ‵ (fdies MMessage′.mir l11) ∷ ‵ (froom tyBool l10 0) ∷ ‵ (fdies tyBool l10) ∷ ‵ (fat fullShare MReceived′.mir l9 0 (vstruct (ofList ((parts-Received p-4 w-3 is-7) .pu0 ∷ (parts-Received p-4 w-3 is-7) .pu1 ∷ (parts-Received p-4 w-3 is-7) .pu2 ∷ (parts-Received p-4 w-3 is-7) .pu3 ∷ [])))) ∷ ‵ (fdies MReceived′.mir l9) ∷ ‵ (fat fullShare (tyRef (named 5) mut (pointee (R-AnswerWords .written))) l8 0 (vptr b8 o8)) ∷ ‵ (fdies (tyRef (named 5) mut (pointee (R-AnswerWords .written))) l8) ∷ ‵ (fat fullShare MStamp′.mir l7 0 u7) ∷ ‵ (fdies MStamp′.mir l7) ∷ ‵ (fat fullShare (tyInt w64) l6 0 u6) ∷ ‵ (fdies (tyInt w64) l6) ∷ ‵ (froom (sliceTy (tyRef (named 4) mut (tyInt w8))) l5 0) ∷ ‵ (fdies (sliceTy (tyRef (named 4) mut (tyInt w8))) l5) ∷ ‵ (fat fullShare (tyRef (named 3) mut (pointee (R-Watch .written))) l4 0 (vptr b4 o4)) ∷ ‵ (fdies (tyRef (named 3) mut (pointee (R-Watch .written))) l4) ∷ ‵ (fat fullShare (sliceTy (tyRef (named 2) mut (pointee (R-MasterWords .written)))) l3 0 (sliceVal (b3, o3) (length h3))) ∷ ‵ (fdies (sliceTy (tyRef (named 2) mut (pointee (R-MasterWords .written)))) l3) ∷ ‵ (fat fullShare (tyRef (named 1) mut (pointee (R-Servo .written))) l2 0 (vptr b2 o2)) ∷ ‵ (fdies (tyRef (named 1) mut (pointee (R-Servo .written))) l2) ∷ ‵ (fat fullShare (tyRef (named 0) mut (pointee (R-UnitWords .written))) l1 0 (vptr b1 o1)) ∷ ‵ (fdies (tyRef (named 0) mut (pointee (R-UnitWords .written))) l1) ∷ ‵ (froom tyUnit l0 0) ∷ ‵ (fdies tyUnit l0) ∷ []) (runs C Λ En mir′.t-13 (atRet En Post))
       from-13 zs-8 len-9 p-4 w-3 e-6 is-7 left1 good u-24 g-25 u-28 g-29 =
-          assigns ! (of-opd ! (load ! (from ! (fld ! {τ = tyBool} {d = off-Received-3} field-Received-3 (stop !))) (look-in ! 125 (sub ! {ν = name-of MReceived′.mir} {τs = tys-of MReceived′.mir} 3 {τ = tyBool} {d = off-Received-3} field-Received-3 (whole !))))) (from ! (stop !)) (init ! 115 refl (lawful-bool 𝓤 H A W .typed (p-4 .announces) _ ((parts-Received p-4 w-3 is-7) .pg3) .0)) $
-          assigns ! (of-opd ! (load ! (from ! (stop !)) (look ! 115 refl))) (from ! (stop !)) (init ! 69 refl (lawful-bool 𝓤 H A W .typed (p-4 .announces) _ ((parts-Received p-4 w-3 is-7) .pg3) .0)) $
-          rewrite ! 69 (λ (u : Val). ‵ (fat fullShare tyBool l37 0 u)) (ap only (tells-bool (p-4 .announces) (((parts-Received p-4 w-3 is-7) .pu3) ∷ []) ((parts-Received p-4 w-3 is-7) .pg3))) refl $
+          assigns ! (of-opd ! (load ! (from ! (fld ! {τ = tyBool} {d = off-Received-3} field-Received-3 (stop !))) (look-in ! 133 (sub ! {ν = name-of MReceived′.mir} {τs = tys-of MReceived′.mir} 3 {τ = tyBool} {d = off-Received-3} field-Received-3 (whole !))))) (from ! (stop !)) (init ! 123 refl (lawful-bool 𝓤 H A W .typed (p-4 .announces) _ ((parts-Received p-4 w-3 is-7) .pg3) .0)) $
+          assigns ! (of-opd ! (load ! (from ! (stop !)) (look ! 123 refl))) (from ! (stop !)) (init ! 69 refl (lawful-bool 𝓤 H A W .typed (p-4 .announces) _ ((parts-Received p-4 w-3 is-7) .pg3) .0)) $
+          rewrite ! 69 (λ (u : Val). ‵ (fat fullShare tyBool l41 0 u)) (ap only (tells-bool (p-4 .announces) (((parts-Received p-4 w-3 is-7) .pu3) ∷ []) ((parts-Received p-4 w-3 is-7) .pg3))) refl $
           first ! $ branches ! (load ! (from ! (stop !)) (look ! 69 refl))
-          (λ held2. forget ! 129 refl $ forget ! 125 refl $ forget ! 115 refl $ forget ! 69 refl $ from-15-1 _ refl zs-8 len-9 p-4 w-3 e-6 is-7 left1 good u-24 g-25 u-28 g-29 held2)
+          (λ held2. forget ! 137 refl $ forget ! 133 refl $ forget ! 123 refl $ forget ! 69 refl $ from-15-1 _ refl zs-8 len-9 p-4 w-3 e-6 is-7 left1 good u-24 g-25 u-28 g-29 held2)
           (λ left2. skips ! $ exec ! C Λ En mir′.t-16 (atRet En Post) $
-          forget ! 137 refl $ forget ! 125 refl $ forget ! 115 refl $ forget ! 69 refl $
+          forget ! 145 refl $ forget ! 133 refl $ forget ! 123 refl $ forget ! 69 refl $
           from-16 zs-8 len-9 p-4 w-3 e-6 is-7 left1 good u-24 g-25 u-28 g-29 left2)
 
-      from-12 : (zs-8 : List ℕ) (len-9 : length zs-8 ≡ length h5) (p-4 : SReceived.Received) (w-3 : Val) (e-6 : (p-4 ≡ receivedBy (readOf h5)) × (zs-8 ≡ h5)) (is-7 : Is R-Received p-4 (w-3 ∷ [])) (left1 : Holds (not (p-4 .barred))) (good : Holds (not (not (eqb (length h3) 5)))) (u-24 : Val) (g-25 : Is R-SettingsWords (h1 .settings) (u-24 ∷ [])) → Sq W (‵ (fobs γ1 (R-UnitWords .coded .code h1)) ∷ ‵ (fbor κ1 (Body (mem R-UnitWords) b1 o1 γ1)) ∷ ‵ (flft κ1 q1) ∷ ‵ (MutSlice (named 4) κ5 R-u8 .own (x5 zs-8) ((sliceVal (b5, o5) (length h5)) ∷ [])) ∷ ‵ (flft κ5 q5) ∷ ‵ (flft κ8 q8) ∷ ‵ (flft κ4 q4) ∷ ‵ (flft κ3 q3) ∷ ‵ (flft κ2 q2) ∷ ‵ (ftrue) ∷ ‵ (fobs γ8 (R-AnswerWords .coded .code h8)) ∷ ‵ (fbor κ8 (Body (mem R-AnswerWords) b8 o8 γ8)) ∷ ‵ (R-Stamp .own h7 (u7 ∷ [])) ∷ ‵ (R-u64 .own h6 (u6 ∷ [])) ∷ ‵ (fobs γ4 (R-Watch .coded .code h4)) ∷ ‵ (fbor κ4 (Body (mem R-Watch) b4 o4 γ4)) ∷ ‵ (fobs γ3 (codedHoleys R-MasterWords .code (heres R-MasterWords h3))) ∷ ‵ (fbor κ3 (Held R-MasterWords (length h3) b3 o3 γ3)) ∷ ‵ (at-slice R-MasterWords (x3 h3) ((sliceVal (b3, o3) (length h3)) ∷ [])) ∷ ‵ (fobs γ2 (R-Servo .coded .code h2)) ∷ ‵ (fbor κ2 (Body (mem R-Servo) b2 o2 γ2)) ∷ ‵ (froom (tyRef erased mut (pointee (R-u8x128 .written))) l61 0) ∷ ‵ (fdies (tyRef erased mut (pointee (R-u8x128 .written))) l61) ∷ ‵ (froom (tyRef erased mut (pointee (R-i32x128 .written))) l60 0) ∷ ‵ (fdies (tyRef erased mut (pointee (R-i32x128 .written))) l60) ∷ ‵ (froom (tyRef erased mut (pointee (R-i64x128 .written))) l59 0) ∷ ‵ (fdies (tyRef erased mut (pointee (R-i64x128 .written))) l59) ∷ ‵ (froom MHead′.mir l58 0) ∷ ‵ (fdies MHead′.mir l58) ∷ ‵ (froom MAnswerWords′.mir l57 0) ∷ ‵ (fdies MAnswerWords′.mir l57) ∷ ‵ (froom MAnswerWords′.mir l56 0) ∷ ‵ (fdies MAnswerWords′.mir l56) ∷ ‵ (froom (tyRef erased mut (pointee (R-u8x128 .written))) l55 0) ∷ ‵ (fdies (tyRef erased mut (pointee (R-u8x128 .written))) l55) ∷ ‵ (froom (tyRef erased mut (pointee (R-i32x128 .written))) l54 0) ∷ ‵ (fdies (tyRef erased mut (pointee (R-i32x128 .written))) l54) ∷ ‵ (froom (tyRef erased mut (pointee (R-i64x128 .written))) l53 0) ∷ ‵ (fdies (tyRef erased mut (pointee (R-i64x128 .written))) l53) ∷ ‵ (froom MHead′.mir l52 0) ∷ ‵ (fdies MHead′.mir l52) ∷ ‵ (froom tyPtr l51 0) ∷ ‵ (fdies tyPtr l51) ∷ ‵ (froom tyPtr l50 0) ∷ ‵ (fdies tyPtr l50) ∷ ‵ (froom (tyInt w64) l49 0) ∷ ‵ (fdies (tyInt w64) l49) ∷ ‵ (froom MAnswerWords′.mir l48 0) ∷ ‵ (fdies MAnswerWords′.mir l48) ∷ ‵ (froom tyBool l47 0) ∷ ‵ (fdies tyBool l47) ∷ ‵ (froom tyPtr l46 0) ∷ ‵ (fdies tyPtr l46) ∷ ‵ (froom tyPtr l45 0) ∷ ‵ (fdies tyPtr l45) ∷ ‵ (froom tyPtr l44 0) ∷ ‵ (fdies tyPtr l44) ∷ ‵ (froom tyPtr l43 0) ∷ ‵ (fdies tyPtr l43) ∷ ‵ (froom MMasterWords′.mir l42 0) ∷ ‵ (fdies MMasterWords′.mir l42) ∷ ‵ (froom tyPtr l41 0) ∷ ‵ (fdies tyPtr l41) ∷ ‵ (froom MAnswerWords′.mir l40 0) ∷ ‵ (fdies MAnswerWords′.mir l40) ∷ ‵ (froom (tyInt w64) l39 0) ∷ ‵ (fdies (tyInt w64) l39) ∷ ‵ (froom MAnswerWords′.mir l38 0) ∷ ‵ (fdies MAnswerWords′.mir l38) ∷ ‵ (froom tyBool l37 0) ∷ ‵ (fdies tyBool l37) ∷ ‵ (froom (sliceTy (tyRef erased mut (tyInt w8))) l36 0) ∷ ‵ (fdies (sliceTy (tyRef erased mut (tyInt w8))) l36) ∷ ‵ (froom (tyRef erased mut (tyInt w8)) l35 0) ∷ ‵ (fdies (tyRef erased mut (tyInt w8)) l35) ∷ ‵ (froom tyBool l34 0) ∷ ‵ (fdies tyBool l34) ∷ ‵ (froom MServo′.mir l33 0) ∷ ‵ (fdies MServo′.mir l33) ∷ ‵ (froom MServo′.mir l32 0) ∷ ‵ (fdies MServo′.mir l32) ∷ ‵ (froom tyBool l31 0) ∷ ‵ (fdies tyBool l31) ∷ ‵ (froom MTold′.mir l30 0) ∷ ‵ (fdies MTold′.mir l30) ∷ ‵ (froom MDelaysWords′.mir l29 0) ∷ ‵ (fdies MDelaysWords′.mir l29) ∷ ‵ (froom MHalvesWords′.mir l28 0) ∷ ‵ (fdies MHalvesWords′.mir l28) ∷ ‵ (froom MEmptied′.mir l27 0) ∷ ‵ (fdies MEmptied′.mir l27) ∷ ‵ (froom tyBool l26 0) ∷ ‵ (fdies tyBool l26) ∷ ‵ (froom MHeld′.mir l25 0) ∷ ‵ (fdies MHeld′.mir l25) ∷ ‵ (froom MMasterWords′.mir l24 0) ∷ ‵ (fdies MMasterWords′.mir l24) ∷ ‵ (froom (tyInt w64) l23 0) ∷ ‵ (fdies (tyInt w64) l23) ∷ ‵ (froom tyBool l22 0) ∷ ‵ (fdies tyBool l22) ∷ ‵ (froom MSeat′.mir l21 0) ∷ ‵ (fdies MSeat′.mir l21) ∷ ‵ (froom MLooked′.mir l20 0) ∷ ‵ (fdies MLooked′.mir l20) ∷ ‵ (froom MLooked′.mir l19 0) ∷ ‵ (fdies MLooked′.mir l19) ∷ ‵ (froom MLooked′.mir l18 0) ∷ ‵ (fdies MLooked′.mir l18) ∷ ‵ (froom MLooked′.mir l17 0) ∷ ‵ (fdies MLooked′.mir l17) ∷ ‵ (froom MLooked′.mir l16 0) ∷ ‵ (fdies MLooked′.mir l16) ∷ ‵ (froom (tyInt w32) l15 0) ∷ ‵ (fdies (tyInt w32) l15) ∷ ‵ (froom tyBool l14 0) ∷ ‵ (fdies tyBool l14) ∷ ‵ (froom MStateWords′.mir l13 0) ∷ ‵ (fdies MStateWords′.mir l13) ∷ ‵ (fat fullShare MSettingsWords′.mir l12 0 u-24) ∷ ‵ (fdies MSettingsWords′.mir l12) ∷ ‵ (fat fullShare MMessage′.mir l11 0 ((parts-Received p-4 w-3 is-7) .pu0)) ∷ ‵ (fdies MMessage′.mir l11) ∷ ‵ (froom tyBool l10 0) ∷ ‵ (fdies tyBool l10) ∷ ‵ (fat fullShare MReceived′.mir l9 0 (vstruct (ofList ((parts-Received p-4 w-3 is-7) .pu0 ∷ (parts-Received p-4 w-3 is-7) .pu1 ∷ (parts-Received p-4 w-3 is-7) .pu2 ∷ (parts-Received p-4 w-3 is-7) .pu3 ∷ [])))) ∷ ‵ (fdies MReceived′.mir l9) ∷ ‵ (fat fullShare (tyRef (named 5) mut (pointee (R-AnswerWords .written))) l8 0 (vptr b8 o8)) ∷ ‵ (fdies (tyRef (named 5) mut (pointee (R-AnswerWords .written))) l8) ∷ ‵ (fat fullShare MStamp′.mir l7 0 u7) ∷ ‵ (fdies MStamp′.mir l7) ∷ ‵ (fat fullShare (tyInt w64) l6 0 u6) ∷ ‵ (fdies (tyInt w64) l6) ∷ ‵ (froom (sliceTy (tyRef (named 4) mut (tyInt w8))) l5 0) ∷ ‵ (fdies (sliceTy (tyRef (named 4) mut (tyInt w8))) l5) ∷ ‵ (fat fullShare (tyRef (named 3) mut (pointee (R-Watch .written))) l4 0 (vptr b4 o4)) ∷ ‵ (fdies (tyRef (named 3) mut (pointee (R-Watch .written))) l4) ∷ ‵ (fat fullShare (sliceTy (tyRef (named 2) mut (pointee (R-MasterWords .written)))) l3 0 (sliceVal (b3, o3) (length h3))) ∷ ‵ (fdies (sliceTy (tyRef (named 2) mut (pointee (R-MasterWords .written)))) l3) ∷ ‵ (fat fullShare (tyRef (named 1) mut (pointee (R-Servo .written))) l2 0 (vptr b2 o2)) ∷ ‵ (fdies (tyRef (named 1) mut (pointee (R-Servo .written))) l2) ∷ ‵ (fat fullShare (tyRef (named 0) mut (pointee (R-UnitWords .written))) l1 0 (vptr b1 o1)) ∷ ‵ (fdies (tyRef (named 0) mut (pointee (R-UnitWords .written))) l1) ∷ ‵ (froom tyUnit l0 0) ∷ ‵ (fdies tyUnit l0) ∷ []) (runs C Λ En mir′.t-12 (atRet En Post))
+      from-12 : (zs-8 : List ℕ) (len-9 : length zs-8 ≡ length h5) (p-4 : SReceived.Received) (w-3 : Val) (e-6 : (p-4 ≡ receivedBy (readOf h5)) × (zs-8 ≡ h5)) (is-7 : Is R-Received p-4 (w-3 ∷ [])) (left1 : Holds (not (p-4 .barred))) (good : Holds (not (not (eqb (length h3) 5)))) (u-24 : Val) (g-25 : Is R-SettingsWords (h1 .settings) (u-24 ∷ [])) → Sq W (‵ (fobs γ1 (R-UnitWords .coded .code h1)) ∷ ‵ (fbor κ1 (Body (mem R-UnitWords) b1 o1 γ1)) ∷ ‵ (flft κ1 q1) ∷ ‵ (MutSlice (named 4) κ5 R-u8 .own (x5 zs-8) ((sliceVal (b5, o5) (length h5)) ∷ [])) ∷ ‵ (flft κ5 q5) ∷ ‵ (flft κ8 q8) ∷ ‵ (flft κ4 q4) ∷ ‵ (flft κ3 q3) ∷ ‵ (flft κ2 q2) ∷ ‵ (ftrue) ∷ ‵ (fobs γ8 (R-AnswerWords .coded .code h8)) ∷ ‵ (fbor κ8 (Body (mem R-AnswerWords) b8 o8 γ8)) ∷ ‵ (R-Stamp .own h7 (u7 ∷ [])) ∷ ‵ (R-u64 .own h6 (u6 ∷ [])) ∷ ‵ (fobs γ4 (R-Watch .coded .code h4)) ∷ ‵ (fbor κ4 (Body (mem R-Watch) b4 o4 γ4)) ∷ ‵ (fobs γ3 (codedHoleys R-MasterWords .code (heres R-MasterWords h3))) ∷ ‵ (fbor κ3 (Held R-MasterWords (length h3) b3 o3 γ3)) ∷ ‵ (at-slice R-MasterWords (x3 h3) ((sliceVal (b3, o3) (length h3)) ∷ [])) ∷ ‵ (fobs γ2 (R-Servo .coded .code h2)) ∷ ‵ (fbor κ2 (Body (mem R-Servo) b2 o2 γ2)) ∷ ‵ (froom (tyRef erased mut (pointee (R-u8x128 .written))) l65 0) ∷ ‵ (fdies (tyRef erased mut (pointee (R-u8x128 .written))) l65) ∷ ‵ (froom (tyRef erased mut (pointee (R-i32x128 .written))) l64 0) ∷ ‵ (fdies (tyRef erased mut (pointee (R-i32x128 .written))) l64) ∷ ‵ (froom (tyRef erased mut (pointee (R-i64x128 .written))) l63 0) ∷ ‵ (fdies (tyRef erased mut (pointee (R-i64x128 .written))) l63) ∷ ‵ (froom MHead′.mir l62 0) ∷ ‵ (fdies MHead′.mir l62) ∷ ‵ (froom MAnswerWords′.mir l61 0) ∷ ‵ (fdies MAnswerWords′.mir l61) ∷ ‵ (froom MAnswerWords′.mir l60 0) ∷ ‵ (fdies MAnswerWords′.mir l60) ∷ ‵ (froom (tyRef erased mut (pointee (R-u8x128 .written))) l59 0) ∷ ‵ (fdies (tyRef erased mut (pointee (R-u8x128 .written))) l59) ∷ ‵ (froom (tyRef erased mut (pointee (R-i32x128 .written))) l58 0) ∷ ‵ (fdies (tyRef erased mut (pointee (R-i32x128 .written))) l58) ∷ ‵ (froom (tyRef erased mut (pointee (R-i64x128 .written))) l57 0) ∷ ‵ (fdies (tyRef erased mut (pointee (R-i64x128 .written))) l57) ∷ ‵ (froom MHead′.mir l56 0) ∷ ‵ (fdies MHead′.mir l56) ∷ ‵ (froom tyPtr l55 0) ∷ ‵ (fdies tyPtr l55) ∷ ‵ (froom tyPtr l54 0) ∷ ‵ (fdies tyPtr l54) ∷ ‵ (froom (tyInt w64) l53 0) ∷ ‵ (fdies (tyInt w64) l53) ∷ ‵ (froom MAnswerWords′.mir l52 0) ∷ ‵ (fdies MAnswerWords′.mir l52) ∷ ‵ (froom tyBool l51 0) ∷ ‵ (fdies tyBool l51) ∷ ‵ (froom tyPtr l50 0) ∷ ‵ (fdies tyPtr l50) ∷ ‵ (froom tyPtr l49 0) ∷ ‵ (fdies tyPtr l49) ∷ ‵ (froom tyPtr l48 0) ∷ ‵ (fdies tyPtr l48) ∷ ‵ (froom tyPtr l47 0) ∷ ‵ (fdies tyPtr l47) ∷ ‵ (froom MMasterWords′.mir l46 0) ∷ ‵ (fdies MMasterWords′.mir l46) ∷ ‵ (froom tyPtr l45 0) ∷ ‵ (fdies tyPtr l45) ∷ ‵ (froom MAnswerWords′.mir l44 0) ∷ ‵ (fdies MAnswerWords′.mir l44) ∷ ‵ (froom (tyInt w64) l43 0) ∷ ‵ (fdies (tyInt w64) l43) ∷ ‵ (froom MAnswerWords′.mir l42 0) ∷ ‵ (fdies MAnswerWords′.mir l42) ∷ ‵ (froom tyBool l41 0) ∷ ‵ (fdies tyBool l41) ∷ ‵ (froom (sliceTy (tyRef erased mut (tyInt w8))) l40 0) ∷ ‵ (fdies (sliceTy (tyRef erased mut (tyInt w8))) l40) ∷ ‵ (froom (tyRef erased mut (tyInt w8)) l39 0) ∷ ‵ (fdies (tyRef erased mut (tyInt w8)) l39) ∷ ‵ (froom (tyInt w16) l38 0) ∷ ‵ (fdies (tyInt w16) l38) ∷ ‵ (froom (tyInt w8) l37 0) ∷ ‵ (fdies (tyInt w8) l37) ∷ ‵ (froom MServo′.mir l36 0) ∷ ‵ (fdies MServo′.mir l36) ∷ ‵ (froom tyBool l35 0) ∷ ‵ (fdies tyBool l35) ∷ ‵ (froom tyBool l34 0) ∷ ‵ (fdies tyBool l34) ∷ ‵ (froom MAccepted′.mir l33 0) ∷ ‵ (fdies MAccepted′.mir l33) ∷ ‵ (froom MServo′.mir l32 0) ∷ ‵ (fdies MServo′.mir l32) ∷ ‵ (froom tyBool l31 0) ∷ ‵ (fdies tyBool l31) ∷ ‵ (froom MTold′.mir l30 0) ∷ ‵ (fdies MTold′.mir l30) ∷ ‵ (froom MDelaysWords′.mir l29 0) ∷ ‵ (fdies MDelaysWords′.mir l29) ∷ ‵ (froom MHalvesWords′.mir l28 0) ∷ ‵ (fdies MHalvesWords′.mir l28) ∷ ‵ (froom MEmptied′.mir l27 0) ∷ ‵ (fdies MEmptied′.mir l27) ∷ ‵ (froom tyBool l26 0) ∷ ‵ (fdies tyBool l26) ∷ ‵ (froom MHeld′.mir l25 0) ∷ ‵ (fdies MHeld′.mir l25) ∷ ‵ (froom MMasterWords′.mir l24 0) ∷ ‵ (fdies MMasterWords′.mir l24) ∷ ‵ (froom (tyInt w64) l23 0) ∷ ‵ (fdies (tyInt w64) l23) ∷ ‵ (froom tyBool l22 0) ∷ ‵ (fdies tyBool l22) ∷ ‵ (froom MSeat′.mir l21 0) ∷ ‵ (fdies MSeat′.mir l21) ∷ ‵ (froom MLooked′.mir l20 0) ∷ ‵ (fdies MLooked′.mir l20) ∷ ‵ (froom MLooked′.mir l19 0) ∷ ‵ (fdies MLooked′.mir l19) ∷ ‵ (froom MLooked′.mir l18 0) ∷ ‵ (fdies MLooked′.mir l18) ∷ ‵ (froom MLooked′.mir l17 0) ∷ ‵ (fdies MLooked′.mir l17) ∷ ‵ (froom MLooked′.mir l16 0) ∷ ‵ (fdies MLooked′.mir l16) ∷ ‵ (froom (tyInt w32) l15 0) ∷ ‵ (fdies (tyInt w32) l15) ∷ ‵ (froom tyBool l14 0) ∷ ‵ (fdies tyBool l14) ∷ ‵ (froom MStateWords′.mir l13 0) ∷ ‵ (fdies MStateWords′.mir l13) ∷ ‵ (fat fullShare MSettingsWords′.mir l12 0 u-24) ∷ ‵ (fdies MSettingsWords′.mir l12) ∷ ‵ (fat fullShare MMessage′.mir l11 0 ((parts-Received p-4 w-3 is-7) .pu0)) ∷ ‵ (fdies MMessage′.mir l11) ∷ ‵ (froom tyBool l10 0) ∷ ‵ (fdies tyBool l10) ∷ ‵ (fat fullShare MReceived′.mir l9 0 (vstruct (ofList ((parts-Received p-4 w-3 is-7) .pu0 ∷ (parts-Received p-4 w-3 is-7) .pu1 ∷ (parts-Received p-4 w-3 is-7) .pu2 ∷ (parts-Received p-4 w-3 is-7) .pu3 ∷ [])))) ∷ ‵ (fdies MReceived′.mir l9) ∷ ‵ (fat fullShare (tyRef (named 5) mut (pointee (R-AnswerWords .written))) l8 0 (vptr b8 o8)) ∷ ‵ (fdies (tyRef (named 5) mut (pointee (R-AnswerWords .written))) l8) ∷ ‵ (fat fullShare MStamp′.mir l7 0 u7) ∷ ‵ (fdies MStamp′.mir l7) ∷ ‵ (fat fullShare (tyInt w64) l6 0 u6) ∷ ‵ (fdies (tyInt w64) l6) ∷ ‵ (froom (sliceTy (tyRef (named 4) mut (tyInt w8))) l5 0) ∷ ‵ (fdies (sliceTy (tyRef (named 4) mut (tyInt w8))) l5) ∷ ‵ (fat fullShare (tyRef (named 3) mut (pointee (R-Watch .written))) l4 0 (vptr b4 o4)) ∷ ‵ (fdies (tyRef (named 3) mut (pointee (R-Watch .written))) l4) ∷ ‵ (fat fullShare (sliceTy (tyRef (named 2) mut (pointee (R-MasterWords .written)))) l3 0 (sliceVal (b3, o3) (length h3))) ∷ ‵ (fdies (sliceTy (tyRef (named 2) mut (pointee (R-MasterWords .written)))) l3) ∷ ‵ (fat fullShare (tyRef (named 1) mut (pointee (R-Servo .written))) l2 0 (vptr b2 o2)) ∷ ‵ (fdies (tyRef (named 1) mut (pointee (R-Servo .written))) l2) ∷ ‵ (fat fullShare (tyRef (named 0) mut (pointee (R-UnitWords .written))) l1 0 (vptr b1 o1)) ∷ ‵ (fdies (tyRef (named 0) mut (pointee (R-UnitWords .written))) l1) ∷ ‵ (froom tyUnit l0 0) ∷ ‵ (fdies tyUnit l0) ∷ []) (runs C Λ En mir′.t-12 (atRet En Post))
       from-12 zs-8 len-9 p-4 w-3 e-6 is-7 left1 good u-24 g-25 =
           opens ! tt R-UnitWords {h = h1} b1 o1 (λ vs-26.
           move ! (1 ∷ []) $
@@ -2939,15 +2941,15 @@ module _ {M : Type 1} (𝓤 : URA M) (H : Heap 𝓤) (A : Atoms 𝓤) (W : Given
           move ! (1 ∷ []) $
           use1 W (‵ (fat fullShare MUnitWords′.mir b1 o1 (only vs-26))) (W .laws .raw-at fullShare MUnitWords′.mir b1 o1 (only vs-26)) $
           rewrite ! 0 (λ (u : Val). ‵ (fat fullShare MUnitWords′.mir b1 o1 u)) ((parts-UnitWords h1 (only vs-26) (one-UnitWords h1 vs-26 g-27)) .whole-is) refl $
-          assigns ! (of-opd ! (load ! (from ! (hop ! (look ! 143 refl) (fld ! {τ = MStateWords′.mir} {d = off-UnitWords-1} field-UnitWords-1 (stop !)))) (look-in ! 0 (sub ! {ν = name-of MUnitWords′.mir} {τs = tys-of MUnitWords′.mir} 1 {τ = MStateWords′.mir} {d = off-UnitWords-1} field-UnitWords-1 (whole !))))) (from ! (stop !)) (init ! 119 refl (lawful-StateWords 𝓤 H A W .typed (h1 .state) _ ((parts-UnitWords h1 (only vs-26) (one-UnitWords h1 vs-26 g-27)) .pg1) .0)) $
+          assigns ! (of-opd ! (load ! (from ! (hop ! (look ! 151 refl) (fld ! {τ = MStateWords′.mir} {d = off-UnitWords-1} field-UnitWords-1 (stop !)))) (look-in ! 0 (sub ! {ν = name-of MUnitWords′.mir} {τs = tys-of MUnitWords′.mir} 1 {τ = MStateWords′.mir} {d = off-UnitWords-1} field-UnitWords-1 (whole !))))) (from ! (stop !)) (init ! 127 refl (lawful-StateWords 𝓤 H A W .typed (h1 .state) _ ((parts-UnitWords h1 (only vs-26) (one-UnitWords h1 vs-26 g-27)) .pg1) .0)) $
           rewrite ! 0 (λ (u : Val). ‵ (fat fullShare MUnitWords′.mir b1 o1 u)) (sym ((parts-UnitWords h1 (only vs-26) (one-UnitWords h1 vs-26 g-27)) .whole-is)) refl $
           use1 W (‵ (cellAt fullShare (R-UnitWords .mir) ((only vs-26) ∷ []) b1 o1)) (W .laws .at-raw fullShare MUnitWords′.mir b1 o1 (only vs-26)) $
           closes ! tt R-UnitWords h1 ((only vs-26) ∷ []) b1 o1 $
           from-13 zs-8 len-9 p-4 w-3 e-6 is-7 left1 good u-24 g-25 ((parts-UnitWords h1 (only vs-26) (one-UnitWords h1 vs-26 g-27)) .pu1) ((parts-UnitWords h1 (only vs-26) (one-UnitWords h1 vs-26 g-27)) .pg1)))
 
-      from-10 : (zs-8 : List ℕ) (len-9 : length zs-8 ≡ length h5) (p-4 : SReceived.Received) (w-3 : Val) (e-6 : (p-4 ≡ receivedBy (readOf h5)) × (zs-8 ≡ h5)) (is-7 : Is R-Received p-4 (w-3 ∷ [])) (left1 : Holds (not (p-4 .barred))) (good : Holds (not (not (eqb (length h3) 5)))) → Sq W (‵ (MutSlice (named 4) κ5 R-u8 .own (x5 zs-8) ((sliceVal (b5, o5) (length h5)) ∷ [])) ∷ ‵ (flft κ5 q5) ∷ ‵ (flft κ8 q8) ∷ ‵ (flft κ4 q4) ∷ ‵ (flft κ3 q3) ∷ ‵ (flft κ2 q2) ∷ ‵ (flft κ1 q1) ∷ ‵ (ftrue) ∷ ‵ (fobs γ8 (R-AnswerWords .coded .code h8)) ∷ ‵ (fbor κ8 (Body (mem R-AnswerWords) b8 o8 γ8)) ∷ ‵ (R-Stamp .own h7 (u7 ∷ [])) ∷ ‵ (R-u64 .own h6 (u6 ∷ [])) ∷ ‵ (fobs γ4 (R-Watch .coded .code h4)) ∷ ‵ (fbor κ4 (Body (mem R-Watch) b4 o4 γ4)) ∷ ‵ (fobs γ3 (codedHoleys R-MasterWords .code (heres R-MasterWords h3))) ∷ ‵ (fbor κ3 (Held R-MasterWords (length h3) b3 o3 γ3)) ∷ ‵ (at-slice R-MasterWords (x3 h3) ((sliceVal (b3, o3) (length h3)) ∷ [])) ∷ ‵ (fobs γ2 (R-Servo .coded .code h2)) ∷ ‵ (fbor κ2 (Body (mem R-Servo) b2 o2 γ2)) ∷ ‵ (fobs γ1 (R-UnitWords .coded .code h1)) ∷ ‵ (fbor κ1 (Body (mem R-UnitWords) b1 o1 γ1)) ∷ ‵ (froom (tyRef erased mut (pointee (R-u8x128 .written))) l61 0) ∷ ‵ (fdies (tyRef erased mut (pointee (R-u8x128 .written))) l61) ∷ ‵ (froom (tyRef erased mut (pointee (R-i32x128 .written))) l60 0) ∷ ‵ (fdies (tyRef erased mut (pointee (R-i32x128 .written))) l60) ∷ ‵ (froom (tyRef erased mut (pointee (R-i64x128 .written))) l59 0) ∷ ‵ (fdies (tyRef erased mut (pointee (R-i64x128 .written))) l59) ∷ ‵ (froom MHead′.mir l58 0) ∷ ‵ (fdies MHead′.mir l58) ∷ ‵ (froom MAnswerWords′.mir l57 0) ∷ ‵ (fdies MAnswerWords′.mir l57) ∷ ‵ (froom MAnswerWords′.mir l56 0) ∷ ‵ (fdies MAnswerWords′.mir l56) ∷ ‵ (froom (tyRef erased mut (pointee (R-u8x128 .written))) l55 0) ∷ ‵ (fdies (tyRef erased mut (pointee (R-u8x128 .written))) l55) ∷ ‵ (froom (tyRef erased mut (pointee (R-i32x128 .written))) l54 0) ∷ ‵ (fdies (tyRef erased mut (pointee (R-i32x128 .written))) l54) ∷ ‵ (froom (tyRef erased mut (pointee (R-i64x128 .written))) l53 0) ∷ ‵ (fdies (tyRef erased mut (pointee (R-i64x128 .written))) l53) ∷ ‵ (froom MHead′.mir l52 0) ∷ ‵ (fdies MHead′.mir l52) ∷ ‵ (froom tyPtr l51 0) ∷ ‵ (fdies tyPtr l51) ∷ ‵ (froom tyPtr l50 0) ∷ ‵ (fdies tyPtr l50) ∷ ‵ (froom (tyInt w64) l49 0) ∷ ‵ (fdies (tyInt w64) l49) ∷ ‵ (froom MAnswerWords′.mir l48 0) ∷ ‵ (fdies MAnswerWords′.mir l48) ∷ ‵ (froom tyBool l47 0) ∷ ‵ (fdies tyBool l47) ∷ ‵ (froom tyPtr l46 0) ∷ ‵ (fdies tyPtr l46) ∷ ‵ (froom tyPtr l45 0) ∷ ‵ (fdies tyPtr l45) ∷ ‵ (froom tyPtr l44 0) ∷ ‵ (fdies tyPtr l44) ∷ ‵ (froom tyPtr l43 0) ∷ ‵ (fdies tyPtr l43) ∷ ‵ (froom MMasterWords′.mir l42 0) ∷ ‵ (fdies MMasterWords′.mir l42) ∷ ‵ (froom tyPtr l41 0) ∷ ‵ (fdies tyPtr l41) ∷ ‵ (froom MAnswerWords′.mir l40 0) ∷ ‵ (fdies MAnswerWords′.mir l40) ∷ ‵ (froom (tyInt w64) l39 0) ∷ ‵ (fdies (tyInt w64) l39) ∷ ‵ (froom MAnswerWords′.mir l38 0) ∷ ‵ (fdies MAnswerWords′.mir l38) ∷ ‵ (froom tyBool l37 0) ∷ ‵ (fdies tyBool l37) ∷ ‵ (froom (sliceTy (tyRef erased mut (tyInt w8))) l36 0) ∷ ‵ (fdies (sliceTy (tyRef erased mut (tyInt w8))) l36) ∷ ‵ (froom (tyRef erased mut (tyInt w8)) l35 0) ∷ ‵ (fdies (tyRef erased mut (tyInt w8)) l35) ∷ ‵ (froom tyBool l34 0) ∷ ‵ (fdies tyBool l34) ∷ ‵ (froom MServo′.mir l33 0) ∷ ‵ (fdies MServo′.mir l33) ∷ ‵ (froom MServo′.mir l32 0) ∷ ‵ (fdies MServo′.mir l32) ∷ ‵ (froom tyBool l31 0) ∷ ‵ (fdies tyBool l31) ∷ ‵ (froom MTold′.mir l30 0) ∷ ‵ (fdies MTold′.mir l30) ∷ ‵ (froom MDelaysWords′.mir l29 0) ∷ ‵ (fdies MDelaysWords′.mir l29) ∷ ‵ (froom MHalvesWords′.mir l28 0) ∷ ‵ (fdies MHalvesWords′.mir l28) ∷ ‵ (froom MEmptied′.mir l27 0) ∷ ‵ (fdies MEmptied′.mir l27) ∷ ‵ (froom tyBool l26 0) ∷ ‵ (fdies tyBool l26) ∷ ‵ (froom MHeld′.mir l25 0) ∷ ‵ (fdies MHeld′.mir l25) ∷ ‵ (froom MMasterWords′.mir l24 0) ∷ ‵ (fdies MMasterWords′.mir l24) ∷ ‵ (froom (tyInt w64) l23 0) ∷ ‵ (fdies (tyInt w64) l23) ∷ ‵ (froom tyBool l22 0) ∷ ‵ (fdies tyBool l22) ∷ ‵ (froom MSeat′.mir l21 0) ∷ ‵ (fdies MSeat′.mir l21) ∷ ‵ (froom MLooked′.mir l20 0) ∷ ‵ (fdies MLooked′.mir l20) ∷ ‵ (froom MLooked′.mir l19 0) ∷ ‵ (fdies MLooked′.mir l19) ∷ ‵ (froom MLooked′.mir l18 0) ∷ ‵ (fdies MLooked′.mir l18) ∷ ‵ (froom MLooked′.mir l17 0) ∷ ‵ (fdies MLooked′.mir l17) ∷ ‵ (froom MLooked′.mir l16 0) ∷ ‵ (fdies MLooked′.mir l16) ∷ ‵ (froom (tyInt w32) l15 0) ∷ ‵ (fdies (tyInt w32) l15) ∷ ‵ (froom tyBool l14 0) ∷ ‵ (fdies tyBool l14) ∷ ‵ (froom MStateWords′.mir l13 0) ∷ ‵ (fdies MStateWords′.mir l13) ∷ ‵ (froom MSettingsWords′.mir l12 0) ∷ ‵ (fdies MSettingsWords′.mir l12) ∷ ‵ (froom MMessage′.mir l11 0) ∷ ‵ (fdies MMessage′.mir l11) ∷ ‵ (froom tyBool l10 0) ∷ ‵ (fdies tyBool l10) ∷ ‵ (fat fullShare MReceived′.mir l9 0 (vstruct (ofList ((parts-Received p-4 w-3 is-7) .pu0 ∷ (parts-Received p-4 w-3 is-7) .pu1 ∷ (parts-Received p-4 w-3 is-7) .pu2 ∷ (parts-Received p-4 w-3 is-7) .pu3 ∷ [])))) ∷ ‵ (fdies MReceived′.mir l9) ∷ ‵ (fat fullShare (tyRef (named 5) mut (pointee (R-AnswerWords .written))) l8 0 (vptr b8 o8)) ∷ ‵ (fdies (tyRef (named 5) mut (pointee (R-AnswerWords .written))) l8) ∷ ‵ (fat fullShare MStamp′.mir l7 0 u7) ∷ ‵ (fdies MStamp′.mir l7) ∷ ‵ (fat fullShare (tyInt w64) l6 0 u6) ∷ ‵ (fdies (tyInt w64) l6) ∷ ‵ (froom (sliceTy (tyRef (named 4) mut (tyInt w8))) l5 0) ∷ ‵ (fdies (sliceTy (tyRef (named 4) mut (tyInt w8))) l5) ∷ ‵ (fat fullShare (tyRef (named 3) mut (pointee (R-Watch .written))) l4 0 (vptr b4 o4)) ∷ ‵ (fdies (tyRef (named 3) mut (pointee (R-Watch .written))) l4) ∷ ‵ (fat fullShare (sliceTy (tyRef (named 2) mut (pointee (R-MasterWords .written)))) l3 0 (sliceVal (b3, o3) (length h3))) ∷ ‵ (fdies (sliceTy (tyRef (named 2) mut (pointee (R-MasterWords .written)))) l3) ∷ ‵ (fat fullShare (tyRef (named 1) mut (pointee (R-Servo .written))) l2 0 (vptr b2 o2)) ∷ ‵ (fdies (tyRef (named 1) mut (pointee (R-Servo .written))) l2) ∷ ‵ (fat fullShare (tyRef (named 0) mut (pointee (R-UnitWords .written))) l1 0 (vptr b1 o1)) ∷ ‵ (fdies (tyRef (named 0) mut (pointee (R-UnitWords .written))) l1) ∷ ‵ (froom tyUnit l0 0) ∷ ‵ (fdies tyUnit l0) ∷ []) (runs C Λ En mir′.t-10 (atRet En Post))
+      from-10 : (zs-8 : List ℕ) (len-9 : length zs-8 ≡ length h5) (p-4 : SReceived.Received) (w-3 : Val) (e-6 : (p-4 ≡ receivedBy (readOf h5)) × (zs-8 ≡ h5)) (is-7 : Is R-Received p-4 (w-3 ∷ [])) (left1 : Holds (not (p-4 .barred))) (good : Holds (not (not (eqb (length h3) 5)))) → Sq W (‵ (MutSlice (named 4) κ5 R-u8 .own (x5 zs-8) ((sliceVal (b5, o5) (length h5)) ∷ [])) ∷ ‵ (flft κ5 q5) ∷ ‵ (flft κ8 q8) ∷ ‵ (flft κ4 q4) ∷ ‵ (flft κ3 q3) ∷ ‵ (flft κ2 q2) ∷ ‵ (flft κ1 q1) ∷ ‵ (ftrue) ∷ ‵ (fobs γ8 (R-AnswerWords .coded .code h8)) ∷ ‵ (fbor κ8 (Body (mem R-AnswerWords) b8 o8 γ8)) ∷ ‵ (R-Stamp .own h7 (u7 ∷ [])) ∷ ‵ (R-u64 .own h6 (u6 ∷ [])) ∷ ‵ (fobs γ4 (R-Watch .coded .code h4)) ∷ ‵ (fbor κ4 (Body (mem R-Watch) b4 o4 γ4)) ∷ ‵ (fobs γ3 (codedHoleys R-MasterWords .code (heres R-MasterWords h3))) ∷ ‵ (fbor κ3 (Held R-MasterWords (length h3) b3 o3 γ3)) ∷ ‵ (at-slice R-MasterWords (x3 h3) ((sliceVal (b3, o3) (length h3)) ∷ [])) ∷ ‵ (fobs γ2 (R-Servo .coded .code h2)) ∷ ‵ (fbor κ2 (Body (mem R-Servo) b2 o2 γ2)) ∷ ‵ (fobs γ1 (R-UnitWords .coded .code h1)) ∷ ‵ (fbor κ1 (Body (mem R-UnitWords) b1 o1 γ1)) ∷ ‵ (froom (tyRef erased mut (pointee (R-u8x128 .written))) l65 0) ∷ ‵ (fdies (tyRef erased mut (pointee (R-u8x128 .written))) l65) ∷ ‵ (froom (tyRef erased mut (pointee (R-i32x128 .written))) l64 0) ∷ ‵ (fdies (tyRef erased mut (pointee (R-i32x128 .written))) l64) ∷ ‵ (froom (tyRef erased mut (pointee (R-i64x128 .written))) l63 0) ∷ ‵ (fdies (tyRef erased mut (pointee (R-i64x128 .written))) l63) ∷ ‵ (froom MHead′.mir l62 0) ∷ ‵ (fdies MHead′.mir l62) ∷ ‵ (froom MAnswerWords′.mir l61 0) ∷ ‵ (fdies MAnswerWords′.mir l61) ∷ ‵ (froom MAnswerWords′.mir l60 0) ∷ ‵ (fdies MAnswerWords′.mir l60) ∷ ‵ (froom (tyRef erased mut (pointee (R-u8x128 .written))) l59 0) ∷ ‵ (fdies (tyRef erased mut (pointee (R-u8x128 .written))) l59) ∷ ‵ (froom (tyRef erased mut (pointee (R-i32x128 .written))) l58 0) ∷ ‵ (fdies (tyRef erased mut (pointee (R-i32x128 .written))) l58) ∷ ‵ (froom (tyRef erased mut (pointee (R-i64x128 .written))) l57 0) ∷ ‵ (fdies (tyRef erased mut (pointee (R-i64x128 .written))) l57) ∷ ‵ (froom MHead′.mir l56 0) ∷ ‵ (fdies MHead′.mir l56) ∷ ‵ (froom tyPtr l55 0) ∷ ‵ (fdies tyPtr l55) ∷ ‵ (froom tyPtr l54 0) ∷ ‵ (fdies tyPtr l54) ∷ ‵ (froom (tyInt w64) l53 0) ∷ ‵ (fdies (tyInt w64) l53) ∷ ‵ (froom MAnswerWords′.mir l52 0) ∷ ‵ (fdies MAnswerWords′.mir l52) ∷ ‵ (froom tyBool l51 0) ∷ ‵ (fdies tyBool l51) ∷ ‵ (froom tyPtr l50 0) ∷ ‵ (fdies tyPtr l50) ∷ ‵ (froom tyPtr l49 0) ∷ ‵ (fdies tyPtr l49) ∷ ‵ (froom tyPtr l48 0) ∷ ‵ (fdies tyPtr l48) ∷ ‵ (froom tyPtr l47 0) ∷ ‵ (fdies tyPtr l47) ∷ ‵ (froom MMasterWords′.mir l46 0) ∷ ‵ (fdies MMasterWords′.mir l46) ∷ ‵ (froom tyPtr l45 0) ∷ ‵ (fdies tyPtr l45) ∷ ‵ (froom MAnswerWords′.mir l44 0) ∷ ‵ (fdies MAnswerWords′.mir l44) ∷ ‵ (froom (tyInt w64) l43 0) ∷ ‵ (fdies (tyInt w64) l43) ∷ ‵ (froom MAnswerWords′.mir l42 0) ∷ ‵ (fdies MAnswerWords′.mir l42) ∷ ‵ (froom tyBool l41 0) ∷ ‵ (fdies tyBool l41) ∷ ‵ (froom (sliceTy (tyRef erased mut (tyInt w8))) l40 0) ∷ ‵ (fdies (sliceTy (tyRef erased mut (tyInt w8))) l40) ∷ ‵ (froom (tyRef erased mut (tyInt w8)) l39 0) ∷ ‵ (fdies (tyRef erased mut (tyInt w8)) l39) ∷ ‵ (froom (tyInt w16) l38 0) ∷ ‵ (fdies (tyInt w16) l38) ∷ ‵ (froom (tyInt w8) l37 0) ∷ ‵ (fdies (tyInt w8) l37) ∷ ‵ (froom MServo′.mir l36 0) ∷ ‵ (fdies MServo′.mir l36) ∷ ‵ (froom tyBool l35 0) ∷ ‵ (fdies tyBool l35) ∷ ‵ (froom tyBool l34 0) ∷ ‵ (fdies tyBool l34) ∷ ‵ (froom MAccepted′.mir l33 0) ∷ ‵ (fdies MAccepted′.mir l33) ∷ ‵ (froom MServo′.mir l32 0) ∷ ‵ (fdies MServo′.mir l32) ∷ ‵ (froom tyBool l31 0) ∷ ‵ (fdies tyBool l31) ∷ ‵ (froom MTold′.mir l30 0) ∷ ‵ (fdies MTold′.mir l30) ∷ ‵ (froom MDelaysWords′.mir l29 0) ∷ ‵ (fdies MDelaysWords′.mir l29) ∷ ‵ (froom MHalvesWords′.mir l28 0) ∷ ‵ (fdies MHalvesWords′.mir l28) ∷ ‵ (froom MEmptied′.mir l27 0) ∷ ‵ (fdies MEmptied′.mir l27) ∷ ‵ (froom tyBool l26 0) ∷ ‵ (fdies tyBool l26) ∷ ‵ (froom MHeld′.mir l25 0) ∷ ‵ (fdies MHeld′.mir l25) ∷ ‵ (froom MMasterWords′.mir l24 0) ∷ ‵ (fdies MMasterWords′.mir l24) ∷ ‵ (froom (tyInt w64) l23 0) ∷ ‵ (fdies (tyInt w64) l23) ∷ ‵ (froom tyBool l22 0) ∷ ‵ (fdies tyBool l22) ∷ ‵ (froom MSeat′.mir l21 0) ∷ ‵ (fdies MSeat′.mir l21) ∷ ‵ (froom MLooked′.mir l20 0) ∷ ‵ (fdies MLooked′.mir l20) ∷ ‵ (froom MLooked′.mir l19 0) ∷ ‵ (fdies MLooked′.mir l19) ∷ ‵ (froom MLooked′.mir l18 0) ∷ ‵ (fdies MLooked′.mir l18) ∷ ‵ (froom MLooked′.mir l17 0) ∷ ‵ (fdies MLooked′.mir l17) ∷ ‵ (froom MLooked′.mir l16 0) ∷ ‵ (fdies MLooked′.mir l16) ∷ ‵ (froom (tyInt w32) l15 0) ∷ ‵ (fdies (tyInt w32) l15) ∷ ‵ (froom tyBool l14 0) ∷ ‵ (fdies tyBool l14) ∷ ‵ (froom MStateWords′.mir l13 0) ∷ ‵ (fdies MStateWords′.mir l13) ∷ ‵ (froom MSettingsWords′.mir l12 0) ∷ ‵ (fdies MSettingsWords′.mir l12) ∷ ‵ (froom MMessage′.mir l11 0) ∷ ‵ (fdies MMessage′.mir l11) ∷ ‵ (froom tyBool l10 0) ∷ ‵ (fdies tyBool l10) ∷ ‵ (fat fullShare MReceived′.mir l9 0 (vstruct (ofList ((parts-Received p-4 w-3 is-7) .pu0 ∷ (parts-Received p-4 w-3 is-7) .pu1 ∷ (parts-Received p-4 w-3 is-7) .pu2 ∷ (parts-Received p-4 w-3 is-7) .pu3 ∷ [])))) ∷ ‵ (fdies MReceived′.mir l9) ∷ ‵ (fat fullShare (tyRef (named 5) mut (pointee (R-AnswerWords .written))) l8 0 (vptr b8 o8)) ∷ ‵ (fdies (tyRef (named 5) mut (pointee (R-AnswerWords .written))) l8) ∷ ‵ (fat fullShare MStamp′.mir l7 0 u7) ∷ ‵ (fdies MStamp′.mir l7) ∷ ‵ (fat fullShare (tyInt w64) l6 0 u6) ∷ ‵ (fdies (tyInt w64) l6) ∷ ‵ (froom (sliceTy (tyRef (named 4) mut (tyInt w8))) l5 0) ∷ ‵ (fdies (sliceTy (tyRef (named 4) mut (tyInt w8))) l5) ∷ ‵ (fat fullShare (tyRef (named 3) mut (pointee (R-Watch .written))) l4 0 (vptr b4 o4)) ∷ ‵ (fdies (tyRef (named 3) mut (pointee (R-Watch .written))) l4) ∷ ‵ (fat fullShare (sliceTy (tyRef (named 2) mut (pointee (R-MasterWords .written)))) l3 0 (sliceVal (b3, o3) (length h3))) ∷ ‵ (fdies (sliceTy (tyRef (named 2) mut (pointee (R-MasterWords .written)))) l3) ∷ ‵ (fat fullShare (tyRef (named 1) mut (pointee (R-Servo .written))) l2 0 (vptr b2 o2)) ∷ ‵ (fdies (tyRef (named 1) mut (pointee (R-Servo .written))) l2) ∷ ‵ (fat fullShare (tyRef (named 0) mut (pointee (R-UnitWords .written))) l1 0 (vptr b1 o1)) ∷ ‵ (fdies (tyRef (named 0) mut (pointee (R-UnitWords .written))) l1) ∷ ‵ (froom tyUnit l0 0) ∷ ‵ (fdies tyUnit l0) ∷ []) (runs C Λ En mir′.t-10 (atRet En Post))
       from-10 zs-8 len-9 p-4 w-3 e-6 is-7 left1 good =
-          assigns ! (of-opd ! (load ! (from ! (fld ! {τ = MMessage′.mir} {d = off-Received-0} field-Received-0 (stop !))) (look-in ! 125 (sub ! {ν = name-of MReceived′.mir} {τs = tys-of MReceived′.mir} 0 {τ = MMessage′.mir} {d = off-Received-0} field-Received-0 (whole !))))) (from ! (stop !)) (init ! 121 refl (lawful-Message 𝓤 H A W .typed (p-4 .message) _ ((parts-Received p-4 w-3 is-7) .pg0) .0)) $
+          assigns ! (of-opd ! (load ! (from ! (fld ! {τ = MMessage′.mir} {d = off-Received-0} field-Received-0 (stop !))) (look-in ! 133 (sub ! {ν = name-of MReceived′.mir} {τs = tys-of MReceived′.mir} 0 {τ = MMessage′.mir} {d = off-Received-0} field-Received-0 (whole !))))) (from ! (stop !)) (init ! 129 refl (lawful-Message 𝓤 H A W .typed (p-4 .message) _ ((parts-Received p-4 w-3 is-7) .pg0) .0)) $
           move ! (19 ∷ 20 ∷ 6 ∷ []) $
           opens ! tt R-UnitWords {h = h1} b1 o1 (λ vs-22.
           move ! (1 ∷ []) $
@@ -2957,39 +2959,39 @@ module _ {M : Type 1} (𝓤 : URA M) (H : Heap 𝓤) (A : Atoms 𝓤) (W : Given
           move ! (1 ∷ []) $
           use1 W (‵ (fat fullShare MUnitWords′.mir b1 o1 (only vs-22))) (W .laws .raw-at fullShare MUnitWords′.mir b1 o1 (only vs-22)) $
           rewrite ! 0 (λ (u : Val). ‵ (fat fullShare MUnitWords′.mir b1 o1 u)) ((parts-UnitWords h1 (only vs-22) (one-UnitWords h1 vs-22 g-23)) .whole-is) refl $
-          assigns ! (of-opd ! (load ! (from ! (hop ! (look ! 143 refl) (fld ! {τ = MSettingsWords′.mir} {d = off-UnitWords-0} field-UnitWords-0 (stop !)))) (look-in ! 0 (sub ! {ν = name-of MUnitWords′.mir} {τs = tys-of MUnitWords′.mir} 0 {τ = MSettingsWords′.mir} {d = off-UnitWords-0} field-UnitWords-0 (whole !))))) (from ! (stop !)) (init ! 121 refl (lawful-SettingsWords 𝓤 H A W .typed (h1 .settings) _ ((parts-UnitWords h1 (only vs-22) (one-UnitWords h1 vs-22 g-23)) .pg0) .0)) $
+          assigns ! (of-opd ! (load ! (from ! (hop ! (look ! 151 refl) (fld ! {τ = MSettingsWords′.mir} {d = off-UnitWords-0} field-UnitWords-0 (stop !)))) (look-in ! 0 (sub ! {ν = name-of MUnitWords′.mir} {τs = tys-of MUnitWords′.mir} 0 {τ = MSettingsWords′.mir} {d = off-UnitWords-0} field-UnitWords-0 (whole !))))) (from ! (stop !)) (init ! 129 refl (lawful-SettingsWords 𝓤 H A W .typed (h1 .settings) _ ((parts-UnitWords h1 (only vs-22) (one-UnitWords h1 vs-22 g-23)) .pg0) .0)) $
           rewrite ! 0 (λ (u : Val). ‵ (fat fullShare MUnitWords′.mir b1 o1 u)) (sym ((parts-UnitWords h1 (only vs-22) (one-UnitWords h1 vs-22 g-23)) .whole-is)) refl $
           use1 W (‵ (cellAt fullShare (R-UnitWords .mir) ((only vs-22) ∷ []) b1 o1)) (W .laws .at-raw fullShare MUnitWords′.mir b1 o1 (only vs-22)) $
           closes ! tt R-UnitWords h1 ((only vs-22) ∷ []) b1 o1 $
           from-12 zs-8 len-9 p-4 w-3 e-6 is-7 left1 good ((parts-UnitWords h1 (only vs-22) (one-UnitWords h1 vs-22 g-23)) .pu0) ((parts-UnitWords h1 (only vs-22) (one-UnitWords h1 vs-22 g-23)) .pg0)))
 
-      from-7 : (zs-8 : List ℕ) (len-9 : length zs-8 ≡ length h5) (p-4 : SReceived.Received) (w-3 : Val) (e-6 : (p-4 ≡ receivedBy (readOf h5)) × (zs-8 ≡ h5)) (is-7 : Is R-Received p-4 (w-3 ∷ [])) (left1 : Holds (not (p-4 .barred))) → Sq W (‵ (MutSlice (named 4) κ5 R-u8 .own (x5 zs-8) ((sliceVal (b5, o5) (length h5)) ∷ [])) ∷ ‵ (flft κ5 q5) ∷ ‵ (flft κ8 q8) ∷ ‵ (flft κ4 q4) ∷ ‵ (flft κ3 q3) ∷ ‵ (flft κ2 q2) ∷ ‵ (flft κ1 q1) ∷ ‵ (ftrue) ∷ ‵ (fobs γ8 (R-AnswerWords .coded .code h8)) ∷ ‵ (fbor κ8 (Body (mem R-AnswerWords) b8 o8 γ8)) ∷ ‵ (R-Stamp .own h7 (u7 ∷ [])) ∷ ‵ (R-u64 .own h6 (u6 ∷ [])) ∷ ‵ (fobs γ4 (R-Watch .coded .code h4)) ∷ ‵ (fbor κ4 (Body (mem R-Watch) b4 o4 γ4)) ∷ ‵ (fobs γ3 (codedHoleys R-MasterWords .code (heres R-MasterWords h3))) ∷ ‵ (fbor κ3 (Held R-MasterWords (length h3) b3 o3 γ3)) ∷ ‵ (at-slice R-MasterWords (x3 h3) ((sliceVal (b3, o3) (length h3)) ∷ [])) ∷ ‵ (fobs γ2 (R-Servo .coded .code h2)) ∷ ‵ (fbor κ2 (Body (mem R-Servo) b2 o2 γ2)) ∷ ‵ (fobs γ1 (R-UnitWords .coded .code h1)) ∷ ‵ (fbor κ1 (Body (mem R-UnitWords) b1 o1 γ1)) ∷ ‵ (froom (tyRef erased mut (pointee (R-u8x128 .written))) l61 0) ∷ ‵ (fdies (tyRef erased mut (pointee (R-u8x128 .written))) l61) ∷ ‵ (froom (tyRef erased mut (pointee (R-i32x128 .written))) l60 0) ∷ ‵ (fdies (tyRef erased mut (pointee (R-i32x128 .written))) l60) ∷ ‵ (froom (tyRef erased mut (pointee (R-i64x128 .written))) l59 0) ∷ ‵ (fdies (tyRef erased mut (pointee (R-i64x128 .written))) l59) ∷ ‵ (froom MHead′.mir l58 0) ∷ ‵ (fdies MHead′.mir l58) ∷ ‵ (froom MAnswerWords′.mir l57 0) ∷ ‵ (fdies MAnswerWords′.mir l57) ∷ ‵ (froom MAnswerWords′.mir l56 0) ∷ ‵ (fdies MAnswerWords′.mir l56) ∷ ‵ (froom (tyRef erased mut (pointee (R-u8x128 .written))) l55 0) ∷ ‵ (fdies (tyRef erased mut (pointee (R-u8x128 .written))) l55) ∷ ‵ (froom (tyRef erased mut (pointee (R-i32x128 .written))) l54 0) ∷ ‵ (fdies (tyRef erased mut (pointee (R-i32x128 .written))) l54) ∷ ‵ (froom (tyRef erased mut (pointee (R-i64x128 .written))) l53 0) ∷ ‵ (fdies (tyRef erased mut (pointee (R-i64x128 .written))) l53) ∷ ‵ (froom MHead′.mir l52 0) ∷ ‵ (fdies MHead′.mir l52) ∷ ‵ (froom tyPtr l51 0) ∷ ‵ (fdies tyPtr l51) ∷ ‵ (froom tyPtr l50 0) ∷ ‵ (fdies tyPtr l50) ∷ ‵ (froom (tyInt w64) l49 0) ∷ ‵ (fdies (tyInt w64) l49) ∷ ‵ (froom MAnswerWords′.mir l48 0) ∷ ‵ (fdies MAnswerWords′.mir l48) ∷ ‵ (froom tyBool l47 0) ∷ ‵ (fdies tyBool l47) ∷ ‵ (froom tyPtr l46 0) ∷ ‵ (fdies tyPtr l46) ∷ ‵ (froom tyPtr l45 0) ∷ ‵ (fdies tyPtr l45) ∷ ‵ (froom tyPtr l44 0) ∷ ‵ (fdies tyPtr l44) ∷ ‵ (froom tyPtr l43 0) ∷ ‵ (fdies tyPtr l43) ∷ ‵ (froom MMasterWords′.mir l42 0) ∷ ‵ (fdies MMasterWords′.mir l42) ∷ ‵ (froom tyPtr l41 0) ∷ ‵ (fdies tyPtr l41) ∷ ‵ (froom MAnswerWords′.mir l40 0) ∷ ‵ (fdies MAnswerWords′.mir l40) ∷ ‵ (froom (tyInt w64) l39 0) ∷ ‵ (fdies (tyInt w64) l39) ∷ ‵ (froom MAnswerWords′.mir l38 0) ∷ ‵ (fdies MAnswerWords′.mir l38) ∷ ‵ (froom tyBool l37 0) ∷ ‵ (fdies tyBool l37) ∷ ‵ (froom (sliceTy (tyRef erased mut (tyInt w8))) l36 0) ∷ ‵ (fdies (sliceTy (tyRef erased mut (tyInt w8))) l36) ∷ ‵ (froom (tyRef erased mut (tyInt w8)) l35 0) ∷ ‵ (fdies (tyRef erased mut (tyInt w8)) l35) ∷ ‵ (froom tyBool l34 0) ∷ ‵ (fdies tyBool l34) ∷ ‵ (froom MServo′.mir l33 0) ∷ ‵ (fdies MServo′.mir l33) ∷ ‵ (froom MServo′.mir l32 0) ∷ ‵ (fdies MServo′.mir l32) ∷ ‵ (froom tyBool l31 0) ∷ ‵ (fdies tyBool l31) ∷ ‵ (froom MTold′.mir l30 0) ∷ ‵ (fdies MTold′.mir l30) ∷ ‵ (froom MDelaysWords′.mir l29 0) ∷ ‵ (fdies MDelaysWords′.mir l29) ∷ ‵ (froom MHalvesWords′.mir l28 0) ∷ ‵ (fdies MHalvesWords′.mir l28) ∷ ‵ (froom MEmptied′.mir l27 0) ∷ ‵ (fdies MEmptied′.mir l27) ∷ ‵ (froom tyBool l26 0) ∷ ‵ (fdies tyBool l26) ∷ ‵ (froom MHeld′.mir l25 0) ∷ ‵ (fdies MHeld′.mir l25) ∷ ‵ (froom MMasterWords′.mir l24 0) ∷ ‵ (fdies MMasterWords′.mir l24) ∷ ‵ (froom (tyInt w64) l23 0) ∷ ‵ (fdies (tyInt w64) l23) ∷ ‵ (froom tyBool l22 0) ∷ ‵ (fdies tyBool l22) ∷ ‵ (froom MSeat′.mir l21 0) ∷ ‵ (fdies MSeat′.mir l21) ∷ ‵ (froom MLooked′.mir l20 0) ∷ ‵ (fdies MLooked′.mir l20) ∷ ‵ (froom MLooked′.mir l19 0) ∷ ‵ (fdies MLooked′.mir l19) ∷ ‵ (froom MLooked′.mir l18 0) ∷ ‵ (fdies MLooked′.mir l18) ∷ ‵ (froom MLooked′.mir l17 0) ∷ ‵ (fdies MLooked′.mir l17) ∷ ‵ (froom MLooked′.mir l16 0) ∷ ‵ (fdies MLooked′.mir l16) ∷ ‵ (froom (tyInt w32) l15 0) ∷ ‵ (fdies (tyInt w32) l15) ∷ ‵ (froom tyBool l14 0) ∷ ‵ (fdies tyBool l14) ∷ ‵ (froom MStateWords′.mir l13 0) ∷ ‵ (fdies MStateWords′.mir l13) ∷ ‵ (froom MSettingsWords′.mir l12 0) ∷ ‵ (fdies MSettingsWords′.mir l12) ∷ ‵ (froom MMessage′.mir l11 0) ∷ ‵ (fdies MMessage′.mir l11) ∷ ‵ (froom tyBool l10 0) ∷ ‵ (fdies tyBool l10) ∷ ‵ (fat fullShare MReceived′.mir l9 0 (vstruct (ofList ((parts-Received p-4 w-3 is-7) .pu0 ∷ (parts-Received p-4 w-3 is-7) .pu1 ∷ (parts-Received p-4 w-3 is-7) .pu2 ∷ (parts-Received p-4 w-3 is-7) .pu3 ∷ [])))) ∷ ‵ (fdies MReceived′.mir l9) ∷ ‵ (fat fullShare (tyRef (named 5) mut (pointee (R-AnswerWords .written))) l8 0 (vptr b8 o8)) ∷ ‵ (fdies (tyRef (named 5) mut (pointee (R-AnswerWords .written))) l8) ∷ ‵ (fat fullShare MStamp′.mir l7 0 u7) ∷ ‵ (fdies MStamp′.mir l7) ∷ ‵ (fat fullShare (tyInt w64) l6 0 u6) ∷ ‵ (fdies (tyInt w64) l6) ∷ ‵ (froom (sliceTy (tyRef (named 4) mut (tyInt w8))) l5 0) ∷ ‵ (fdies (sliceTy (tyRef (named 4) mut (tyInt w8))) l5) ∷ ‵ (fat fullShare (tyRef (named 3) mut (pointee (R-Watch .written))) l4 0 (vptr b4 o4)) ∷ ‵ (fdies (tyRef (named 3) mut (pointee (R-Watch .written))) l4) ∷ ‵ (fat fullShare (sliceTy (tyRef (named 2) mut (pointee (R-MasterWords .written)))) l3 0 (sliceVal (b3, o3) (length h3))) ∷ ‵ (fdies (sliceTy (tyRef (named 2) mut (pointee (R-MasterWords .written)))) l3) ∷ ‵ (fat fullShare (tyRef (named 1) mut (pointee (R-Servo .written))) l2 0 (vptr b2 o2)) ∷ ‵ (fdies (tyRef (named 1) mut (pointee (R-Servo .written))) l2) ∷ ‵ (fat fullShare (tyRef (named 0) mut (pointee (R-UnitWords .written))) l1 0 (vptr b1 o1)) ∷ ‵ (fdies (tyRef (named 0) mut (pointee (R-UnitWords .written))) l1) ∷ ‵ (froom tyUnit l0 0) ∷ ‵ (fdies tyUnit l0) ∷ []) (runs C Λ En mir′.t-7 (atRet En Post))
+      from-7 : (zs-8 : List ℕ) (len-9 : length zs-8 ≡ length h5) (p-4 : SReceived.Received) (w-3 : Val) (e-6 : (p-4 ≡ receivedBy (readOf h5)) × (zs-8 ≡ h5)) (is-7 : Is R-Received p-4 (w-3 ∷ [])) (left1 : Holds (not (p-4 .barred))) → Sq W (‵ (MutSlice (named 4) κ5 R-u8 .own (x5 zs-8) ((sliceVal (b5, o5) (length h5)) ∷ [])) ∷ ‵ (flft κ5 q5) ∷ ‵ (flft κ8 q8) ∷ ‵ (flft κ4 q4) ∷ ‵ (flft κ3 q3) ∷ ‵ (flft κ2 q2) ∷ ‵ (flft κ1 q1) ∷ ‵ (ftrue) ∷ ‵ (fobs γ8 (R-AnswerWords .coded .code h8)) ∷ ‵ (fbor κ8 (Body (mem R-AnswerWords) b8 o8 γ8)) ∷ ‵ (R-Stamp .own h7 (u7 ∷ [])) ∷ ‵ (R-u64 .own h6 (u6 ∷ [])) ∷ ‵ (fobs γ4 (R-Watch .coded .code h4)) ∷ ‵ (fbor κ4 (Body (mem R-Watch) b4 o4 γ4)) ∷ ‵ (fobs γ3 (codedHoleys R-MasterWords .code (heres R-MasterWords h3))) ∷ ‵ (fbor κ3 (Held R-MasterWords (length h3) b3 o3 γ3)) ∷ ‵ (at-slice R-MasterWords (x3 h3) ((sliceVal (b3, o3) (length h3)) ∷ [])) ∷ ‵ (fobs γ2 (R-Servo .coded .code h2)) ∷ ‵ (fbor κ2 (Body (mem R-Servo) b2 o2 γ2)) ∷ ‵ (fobs γ1 (R-UnitWords .coded .code h1)) ∷ ‵ (fbor κ1 (Body (mem R-UnitWords) b1 o1 γ1)) ∷ ‵ (froom (tyRef erased mut (pointee (R-u8x128 .written))) l65 0) ∷ ‵ (fdies (tyRef erased mut (pointee (R-u8x128 .written))) l65) ∷ ‵ (froom (tyRef erased mut (pointee (R-i32x128 .written))) l64 0) ∷ ‵ (fdies (tyRef erased mut (pointee (R-i32x128 .written))) l64) ∷ ‵ (froom (tyRef erased mut (pointee (R-i64x128 .written))) l63 0) ∷ ‵ (fdies (tyRef erased mut (pointee (R-i64x128 .written))) l63) ∷ ‵ (froom MHead′.mir l62 0) ∷ ‵ (fdies MHead′.mir l62) ∷ ‵ (froom MAnswerWords′.mir l61 0) ∷ ‵ (fdies MAnswerWords′.mir l61) ∷ ‵ (froom MAnswerWords′.mir l60 0) ∷ ‵ (fdies MAnswerWords′.mir l60) ∷ ‵ (froom (tyRef erased mut (pointee (R-u8x128 .written))) l59 0) ∷ ‵ (fdies (tyRef erased mut (pointee (R-u8x128 .written))) l59) ∷ ‵ (froom (tyRef erased mut (pointee (R-i32x128 .written))) l58 0) ∷ ‵ (fdies (tyRef erased mut (pointee (R-i32x128 .written))) l58) ∷ ‵ (froom (tyRef erased mut (pointee (R-i64x128 .written))) l57 0) ∷ ‵ (fdies (tyRef erased mut (pointee (R-i64x128 .written))) l57) ∷ ‵ (froom MHead′.mir l56 0) ∷ ‵ (fdies MHead′.mir l56) ∷ ‵ (froom tyPtr l55 0) ∷ ‵ (fdies tyPtr l55) ∷ ‵ (froom tyPtr l54 0) ∷ ‵ (fdies tyPtr l54) ∷ ‵ (froom (tyInt w64) l53 0) ∷ ‵ (fdies (tyInt w64) l53) ∷ ‵ (froom MAnswerWords′.mir l52 0) ∷ ‵ (fdies MAnswerWords′.mir l52) ∷ ‵ (froom tyBool l51 0) ∷ ‵ (fdies tyBool l51) ∷ ‵ (froom tyPtr l50 0) ∷ ‵ (fdies tyPtr l50) ∷ ‵ (froom tyPtr l49 0) ∷ ‵ (fdies tyPtr l49) ∷ ‵ (froom tyPtr l48 0) ∷ ‵ (fdies tyPtr l48) ∷ ‵ (froom tyPtr l47 0) ∷ ‵ (fdies tyPtr l47) ∷ ‵ (froom MMasterWords′.mir l46 0) ∷ ‵ (fdies MMasterWords′.mir l46) ∷ ‵ (froom tyPtr l45 0) ∷ ‵ (fdies tyPtr l45) ∷ ‵ (froom MAnswerWords′.mir l44 0) ∷ ‵ (fdies MAnswerWords′.mir l44) ∷ ‵ (froom (tyInt w64) l43 0) ∷ ‵ (fdies (tyInt w64) l43) ∷ ‵ (froom MAnswerWords′.mir l42 0) ∷ ‵ (fdies MAnswerWords′.mir l42) ∷ ‵ (froom tyBool l41 0) ∷ ‵ (fdies tyBool l41) ∷ ‵ (froom (sliceTy (tyRef erased mut (tyInt w8))) l40 0) ∷ ‵ (fdies (sliceTy (tyRef erased mut (tyInt w8))) l40) ∷ ‵ (froom (tyRef erased mut (tyInt w8)) l39 0) ∷ ‵ (fdies (tyRef erased mut (tyInt w8)) l39) ∷ ‵ (froom (tyInt w16) l38 0) ∷ ‵ (fdies (tyInt w16) l38) ∷ ‵ (froom (tyInt w8) l37 0) ∷ ‵ (fdies (tyInt w8) l37) ∷ ‵ (froom MServo′.mir l36 0) ∷ ‵ (fdies MServo′.mir l36) ∷ ‵ (froom tyBool l35 0) ∷ ‵ (fdies tyBool l35) ∷ ‵ (froom tyBool l34 0) ∷ ‵ (fdies tyBool l34) ∷ ‵ (froom MAccepted′.mir l33 0) ∷ ‵ (fdies MAccepted′.mir l33) ∷ ‵ (froom MServo′.mir l32 0) ∷ ‵ (fdies MServo′.mir l32) ∷ ‵ (froom tyBool l31 0) ∷ ‵ (fdies tyBool l31) ∷ ‵ (froom MTold′.mir l30 0) ∷ ‵ (fdies MTold′.mir l30) ∷ ‵ (froom MDelaysWords′.mir l29 0) ∷ ‵ (fdies MDelaysWords′.mir l29) ∷ ‵ (froom MHalvesWords′.mir l28 0) ∷ ‵ (fdies MHalvesWords′.mir l28) ∷ ‵ (froom MEmptied′.mir l27 0) ∷ ‵ (fdies MEmptied′.mir l27) ∷ ‵ (froom tyBool l26 0) ∷ ‵ (fdies tyBool l26) ∷ ‵ (froom MHeld′.mir l25 0) ∷ ‵ (fdies MHeld′.mir l25) ∷ ‵ (froom MMasterWords′.mir l24 0) ∷ ‵ (fdies MMasterWords′.mir l24) ∷ ‵ (froom (tyInt w64) l23 0) ∷ ‵ (fdies (tyInt w64) l23) ∷ ‵ (froom tyBool l22 0) ∷ ‵ (fdies tyBool l22) ∷ ‵ (froom MSeat′.mir l21 0) ∷ ‵ (fdies MSeat′.mir l21) ∷ ‵ (froom MLooked′.mir l20 0) ∷ ‵ (fdies MLooked′.mir l20) ∷ ‵ (froom MLooked′.mir l19 0) ∷ ‵ (fdies MLooked′.mir l19) ∷ ‵ (froom MLooked′.mir l18 0) ∷ ‵ (fdies MLooked′.mir l18) ∷ ‵ (froom MLooked′.mir l17 0) ∷ ‵ (fdies MLooked′.mir l17) ∷ ‵ (froom MLooked′.mir l16 0) ∷ ‵ (fdies MLooked′.mir l16) ∷ ‵ (froom (tyInt w32) l15 0) ∷ ‵ (fdies (tyInt w32) l15) ∷ ‵ (froom tyBool l14 0) ∷ ‵ (fdies tyBool l14) ∷ ‵ (froom MStateWords′.mir l13 0) ∷ ‵ (fdies MStateWords′.mir l13) ∷ ‵ (froom MSettingsWords′.mir l12 0) ∷ ‵ (fdies MSettingsWords′.mir l12) ∷ ‵ (froom MMessage′.mir l11 0) ∷ ‵ (fdies MMessage′.mir l11) ∷ ‵ (froom tyBool l10 0) ∷ ‵ (fdies tyBool l10) ∷ ‵ (fat fullShare MReceived′.mir l9 0 (vstruct (ofList ((parts-Received p-4 w-3 is-7) .pu0 ∷ (parts-Received p-4 w-3 is-7) .pu1 ∷ (parts-Received p-4 w-3 is-7) .pu2 ∷ (parts-Received p-4 w-3 is-7) .pu3 ∷ [])))) ∷ ‵ (fdies MReceived′.mir l9) ∷ ‵ (fat fullShare (tyRef (named 5) mut (pointee (R-AnswerWords .written))) l8 0 (vptr b8 o8)) ∷ ‵ (fdies (tyRef (named 5) mut (pointee (R-AnswerWords .written))) l8) ∷ ‵ (fat fullShare MStamp′.mir l7 0 u7) ∷ ‵ (fdies MStamp′.mir l7) ∷ ‵ (fat fullShare (tyInt w64) l6 0 u6) ∷ ‵ (fdies (tyInt w64) l6) ∷ ‵ (froom (sliceTy (tyRef (named 4) mut (tyInt w8))) l5 0) ∷ ‵ (fdies (sliceTy (tyRef (named 4) mut (tyInt w8))) l5) ∷ ‵ (fat fullShare (tyRef (named 3) mut (pointee (R-Watch .written))) l4 0 (vptr b4 o4)) ∷ ‵ (fdies (tyRef (named 3) mut (pointee (R-Watch .written))) l4) ∷ ‵ (fat fullShare (sliceTy (tyRef (named 2) mut (pointee (R-MasterWords .written)))) l3 0 (sliceVal (b3, o3) (length h3))) ∷ ‵ (fdies (sliceTy (tyRef (named 2) mut (pointee (R-MasterWords .written)))) l3) ∷ ‵ (fat fullShare (tyRef (named 1) mut (pointee (R-Servo .written))) l2 0 (vptr b2 o2)) ∷ ‵ (fdies (tyRef (named 1) mut (pointee (R-Servo .written))) l2) ∷ ‵ (fat fullShare (tyRef (named 0) mut (pointee (R-UnitWords .written))) l1 0 (vptr b1 o1)) ∷ ‵ (fdies (tyRef (named 0) mut (pointee (R-UnitWords .written))) l1) ∷ ‵ (froom tyUnit l0 0) ∷ ‵ (fdies tyUnit l0) ∷ []) (runs C Λ En mir′.t-7 (atRet En Post))
       from-7 zs-8 len-9 p-4 w-3 e-6 is-7 left1 =
-          assigns ! (of-opd ! (load ! (from ! (fld ! refl (stop !))) (look-in ! 137 (sub ! 1 refl (whole !))))) (from ! (stop !)) (init ! 65 refl (tt, record { fits = room3 .0 })) $
+          assigns ! (of-opd ! (load ! (from ! (fld ! refl (stop !))) (look-in ! 145 (sub ! 1 refl (whole !))))) (from ! (stop !)) (init ! 65 refl (tt, record { fits = room3 .0 })) $
           assigns ! (bin ! (load ! (from ! (stop !)) (look ! 65 refl)) (lit ! tt) tt) (from ! (stop !)) (init ! 69 refl (tt, tt)) $
           first ! $ branches ! (load ! (from ! (stop !)) (look ! 69 refl))
-          (λ bad. forget ! 141 refl $ forget ! 139 refl $ forget ! 137 refl $ forget ! 135 refl $ forget ! 131 refl $ forget ! 129 refl $ forget ! 125 refl $ forget ! 65 refl $ forget ! 69 refl $ from-9-1 _ refl zs-8 len-9 p-4 w-3 e-6 is-7 left1 bad)
+          (λ bad. forget ! 149 refl $ forget ! 147 refl $ forget ! 145 refl $ forget ! 143 refl $ forget ! 139 refl $ forget ! 137 refl $ forget ! 133 refl $ forget ! 65 refl $ forget ! 69 refl $ from-9-1 _ refl zs-8 len-9 p-4 w-3 e-6 is-7 left1 bad)
           (λ good. skips ! $ exec ! C Λ En mir′.t-10 (atRet En Post) $
           forget ! 65 refl $ forget ! 69 refl $
           from-10 zs-8 len-9 p-4 w-3 e-6 is-7 left1 good)
 
-      from-4 : (zs-8 : List ℕ) (len-9 : length zs-8 ≡ length h5) (p-4 : SReceived.Received) (w-3 : Val) (e-6 : (p-4 ≡ receivedBy (readOf h5)) × (zs-8 ≡ h5)) (is-7 : Is R-Received p-4 (w-3 ∷ [])) → Sq W (‵ (MutSlice (named 4) κ5 R-u8 .own (x5 zs-8) ((sliceVal (b5, o5) (length h5)) ∷ [])) ∷ ‵ (flft κ5 q5) ∷ ‵ (flft κ8 q8) ∷ ‵ (flft κ4 q4) ∷ ‵ (flft κ3 q3) ∷ ‵ (flft κ2 q2) ∷ ‵ (flft κ1 q1) ∷ ‵ (ftrue) ∷ ‵ (fobs γ8 (R-AnswerWords .coded .code h8)) ∷ ‵ (fbor κ8 (Body (mem R-AnswerWords) b8 o8 γ8)) ∷ ‵ (R-Stamp .own h7 (u7 ∷ [])) ∷ ‵ (R-u64 .own h6 (u6 ∷ [])) ∷ ‵ (fobs γ4 (R-Watch .coded .code h4)) ∷ ‵ (fbor κ4 (Body (mem R-Watch) b4 o4 γ4)) ∷ ‵ (fobs γ3 (codedHoleys R-MasterWords .code (heres R-MasterWords h3))) ∷ ‵ (fbor κ3 (Held R-MasterWords (length h3) b3 o3 γ3)) ∷ ‵ (at-slice R-MasterWords (x3 h3) ((sliceVal (b3, o3) (length h3)) ∷ [])) ∷ ‵ (fobs γ2 (R-Servo .coded .code h2)) ∷ ‵ (fbor κ2 (Body (mem R-Servo) b2 o2 γ2)) ∷ ‵ (fobs γ1 (R-UnitWords .coded .code h1)) ∷ ‵ (fbor κ1 (Body (mem R-UnitWords) b1 o1 γ1)) ∷ ‵ (froom (tyRef erased mut (pointee (R-u8x128 .written))) l61 0) ∷ ‵ (fdies (tyRef erased mut (pointee (R-u8x128 .written))) l61) ∷ ‵ (froom (tyRef erased mut (pointee (R-i32x128 .written))) l60 0) ∷ ‵ (fdies (tyRef erased mut (pointee (R-i32x128 .written))) l60) ∷ ‵ (froom (tyRef erased mut (pointee (R-i64x128 .written))) l59 0) ∷ ‵ (fdies (tyRef erased mut (pointee (R-i64x128 .written))) l59) ∷ ‵ (froom MHead′.mir l58 0) ∷ ‵ (fdies MHead′.mir l58) ∷ ‵ (froom MAnswerWords′.mir l57 0) ∷ ‵ (fdies MAnswerWords′.mir l57) ∷ ‵ (froom MAnswerWords′.mir l56 0) ∷ ‵ (fdies MAnswerWords′.mir l56) ∷ ‵ (froom (tyRef erased mut (pointee (R-u8x128 .written))) l55 0) ∷ ‵ (fdies (tyRef erased mut (pointee (R-u8x128 .written))) l55) ∷ ‵ (froom (tyRef erased mut (pointee (R-i32x128 .written))) l54 0) ∷ ‵ (fdies (tyRef erased mut (pointee (R-i32x128 .written))) l54) ∷ ‵ (froom (tyRef erased mut (pointee (R-i64x128 .written))) l53 0) ∷ ‵ (fdies (tyRef erased mut (pointee (R-i64x128 .written))) l53) ∷ ‵ (froom MHead′.mir l52 0) ∷ ‵ (fdies MHead′.mir l52) ∷ ‵ (froom tyPtr l51 0) ∷ ‵ (fdies tyPtr l51) ∷ ‵ (froom tyPtr l50 0) ∷ ‵ (fdies tyPtr l50) ∷ ‵ (froom (tyInt w64) l49 0) ∷ ‵ (fdies (tyInt w64) l49) ∷ ‵ (froom MAnswerWords′.mir l48 0) ∷ ‵ (fdies MAnswerWords′.mir l48) ∷ ‵ (froom tyBool l47 0) ∷ ‵ (fdies tyBool l47) ∷ ‵ (froom tyPtr l46 0) ∷ ‵ (fdies tyPtr l46) ∷ ‵ (froom tyPtr l45 0) ∷ ‵ (fdies tyPtr l45) ∷ ‵ (froom tyPtr l44 0) ∷ ‵ (fdies tyPtr l44) ∷ ‵ (froom tyPtr l43 0) ∷ ‵ (fdies tyPtr l43) ∷ ‵ (froom MMasterWords′.mir l42 0) ∷ ‵ (fdies MMasterWords′.mir l42) ∷ ‵ (froom tyPtr l41 0) ∷ ‵ (fdies tyPtr l41) ∷ ‵ (froom MAnswerWords′.mir l40 0) ∷ ‵ (fdies MAnswerWords′.mir l40) ∷ ‵ (froom (tyInt w64) l39 0) ∷ ‵ (fdies (tyInt w64) l39) ∷ ‵ (froom MAnswerWords′.mir l38 0) ∷ ‵ (fdies MAnswerWords′.mir l38) ∷ ‵ (froom tyBool l37 0) ∷ ‵ (fdies tyBool l37) ∷ ‵ (froom (sliceTy (tyRef erased mut (tyInt w8))) l36 0) ∷ ‵ (fdies (sliceTy (tyRef erased mut (tyInt w8))) l36) ∷ ‵ (froom (tyRef erased mut (tyInt w8)) l35 0) ∷ ‵ (fdies (tyRef erased mut (tyInt w8)) l35) ∷ ‵ (froom tyBool l34 0) ∷ ‵ (fdies tyBool l34) ∷ ‵ (froom MServo′.mir l33 0) ∷ ‵ (fdies MServo′.mir l33) ∷ ‵ (froom MServo′.mir l32 0) ∷ ‵ (fdies MServo′.mir l32) ∷ ‵ (froom tyBool l31 0) ∷ ‵ (fdies tyBool l31) ∷ ‵ (froom MTold′.mir l30 0) ∷ ‵ (fdies MTold′.mir l30) ∷ ‵ (froom MDelaysWords′.mir l29 0) ∷ ‵ (fdies MDelaysWords′.mir l29) ∷ ‵ (froom MHalvesWords′.mir l28 0) ∷ ‵ (fdies MHalvesWords′.mir l28) ∷ ‵ (froom MEmptied′.mir l27 0) ∷ ‵ (fdies MEmptied′.mir l27) ∷ ‵ (froom tyBool l26 0) ∷ ‵ (fdies tyBool l26) ∷ ‵ (froom MHeld′.mir l25 0) ∷ ‵ (fdies MHeld′.mir l25) ∷ ‵ (froom MMasterWords′.mir l24 0) ∷ ‵ (fdies MMasterWords′.mir l24) ∷ ‵ (froom (tyInt w64) l23 0) ∷ ‵ (fdies (tyInt w64) l23) ∷ ‵ (froom tyBool l22 0) ∷ ‵ (fdies tyBool l22) ∷ ‵ (froom MSeat′.mir l21 0) ∷ ‵ (fdies MSeat′.mir l21) ∷ ‵ (froom MLooked′.mir l20 0) ∷ ‵ (fdies MLooked′.mir l20) ∷ ‵ (froom MLooked′.mir l19 0) ∷ ‵ (fdies MLooked′.mir l19) ∷ ‵ (froom MLooked′.mir l18 0) ∷ ‵ (fdies MLooked′.mir l18) ∷ ‵ (froom MLooked′.mir l17 0) ∷ ‵ (fdies MLooked′.mir l17) ∷ ‵ (froom MLooked′.mir l16 0) ∷ ‵ (fdies MLooked′.mir l16) ∷ ‵ (froom (tyInt w32) l15 0) ∷ ‵ (fdies (tyInt w32) l15) ∷ ‵ (froom tyBool l14 0) ∷ ‵ (fdies tyBool l14) ∷ ‵ (froom MStateWords′.mir l13 0) ∷ ‵ (fdies MStateWords′.mir l13) ∷ ‵ (froom MSettingsWords′.mir l12 0) ∷ ‵ (fdies MSettingsWords′.mir l12) ∷ ‵ (froom MMessage′.mir l11 0) ∷ ‵ (fdies MMessage′.mir l11) ∷ ‵ (froom tyBool l10 0) ∷ ‵ (fdies tyBool l10) ∷ ‵ (fat fullShare MReceived′.mir l9 0 w-3) ∷ ‵ (fdies MReceived′.mir l9) ∷ ‵ (fat fullShare (tyRef (named 5) mut (pointee (R-AnswerWords .written))) l8 0 (vptr b8 o8)) ∷ ‵ (fdies (tyRef (named 5) mut (pointee (R-AnswerWords .written))) l8) ∷ ‵ (fat fullShare MStamp′.mir l7 0 u7) ∷ ‵ (fdies MStamp′.mir l7) ∷ ‵ (fat fullShare (tyInt w64) l6 0 u6) ∷ ‵ (fdies (tyInt w64) l6) ∷ ‵ (froom (sliceTy (tyRef (named 4) mut (tyInt w8))) l5 0) ∷ ‵ (fdies (sliceTy (tyRef (named 4) mut (tyInt w8))) l5) ∷ ‵ (fat fullShare (tyRef (named 3) mut (pointee (R-Watch .written))) l4 0 (vptr b4 o4)) ∷ ‵ (fdies (tyRef (named 3) mut (pointee (R-Watch .written))) l4) ∷ ‵ (fat fullShare (sliceTy (tyRef (named 2) mut (pointee (R-MasterWords .written)))) l3 0 (sliceVal (b3, o3) (length h3))) ∷ ‵ (fdies (sliceTy (tyRef (named 2) mut (pointee (R-MasterWords .written)))) l3) ∷ ‵ (fat fullShare (tyRef (named 1) mut (pointee (R-Servo .written))) l2 0 (vptr b2 o2)) ∷ ‵ (fdies (tyRef (named 1) mut (pointee (R-Servo .written))) l2) ∷ ‵ (fat fullShare (tyRef (named 0) mut (pointee (R-UnitWords .written))) l1 0 (vptr b1 o1)) ∷ ‵ (fdies (tyRef (named 0) mut (pointee (R-UnitWords .written))) l1) ∷ ‵ (froom tyUnit l0 0) ∷ ‵ (fdies tyUnit l0) ∷ []) (runs C Λ En mir′.t-4 (atRet En Post))
+      from-4 : (zs-8 : List ℕ) (len-9 : length zs-8 ≡ length h5) (p-4 : SReceived.Received) (w-3 : Val) (e-6 : (p-4 ≡ receivedBy (readOf h5)) × (zs-8 ≡ h5)) (is-7 : Is R-Received p-4 (w-3 ∷ [])) → Sq W (‵ (MutSlice (named 4) κ5 R-u8 .own (x5 zs-8) ((sliceVal (b5, o5) (length h5)) ∷ [])) ∷ ‵ (flft κ5 q5) ∷ ‵ (flft κ8 q8) ∷ ‵ (flft κ4 q4) ∷ ‵ (flft κ3 q3) ∷ ‵ (flft κ2 q2) ∷ ‵ (flft κ1 q1) ∷ ‵ (ftrue) ∷ ‵ (fobs γ8 (R-AnswerWords .coded .code h8)) ∷ ‵ (fbor κ8 (Body (mem R-AnswerWords) b8 o8 γ8)) ∷ ‵ (R-Stamp .own h7 (u7 ∷ [])) ∷ ‵ (R-u64 .own h6 (u6 ∷ [])) ∷ ‵ (fobs γ4 (R-Watch .coded .code h4)) ∷ ‵ (fbor κ4 (Body (mem R-Watch) b4 o4 γ4)) ∷ ‵ (fobs γ3 (codedHoleys R-MasterWords .code (heres R-MasterWords h3))) ∷ ‵ (fbor κ3 (Held R-MasterWords (length h3) b3 o3 γ3)) ∷ ‵ (at-slice R-MasterWords (x3 h3) ((sliceVal (b3, o3) (length h3)) ∷ [])) ∷ ‵ (fobs γ2 (R-Servo .coded .code h2)) ∷ ‵ (fbor κ2 (Body (mem R-Servo) b2 o2 γ2)) ∷ ‵ (fobs γ1 (R-UnitWords .coded .code h1)) ∷ ‵ (fbor κ1 (Body (mem R-UnitWords) b1 o1 γ1)) ∷ ‵ (froom (tyRef erased mut (pointee (R-u8x128 .written))) l65 0) ∷ ‵ (fdies (tyRef erased mut (pointee (R-u8x128 .written))) l65) ∷ ‵ (froom (tyRef erased mut (pointee (R-i32x128 .written))) l64 0) ∷ ‵ (fdies (tyRef erased mut (pointee (R-i32x128 .written))) l64) ∷ ‵ (froom (tyRef erased mut (pointee (R-i64x128 .written))) l63 0) ∷ ‵ (fdies (tyRef erased mut (pointee (R-i64x128 .written))) l63) ∷ ‵ (froom MHead′.mir l62 0) ∷ ‵ (fdies MHead′.mir l62) ∷ ‵ (froom MAnswerWords′.mir l61 0) ∷ ‵ (fdies MAnswerWords′.mir l61) ∷ ‵ (froom MAnswerWords′.mir l60 0) ∷ ‵ (fdies MAnswerWords′.mir l60) ∷ ‵ (froom (tyRef erased mut (pointee (R-u8x128 .written))) l59 0) ∷ ‵ (fdies (tyRef erased mut (pointee (R-u8x128 .written))) l59) ∷ ‵ (froom (tyRef erased mut (pointee (R-i32x128 .written))) l58 0) ∷ ‵ (fdies (tyRef erased mut (pointee (R-i32x128 .written))) l58) ∷ ‵ (froom (tyRef erased mut (pointee (R-i64x128 .written))) l57 0) ∷ ‵ (fdies (tyRef erased mut (pointee (R-i64x128 .written))) l57) ∷ ‵ (froom MHead′.mir l56 0) ∷ ‵ (fdies MHead′.mir l56) ∷ ‵ (froom tyPtr l55 0) ∷ ‵ (fdies tyPtr l55) ∷ ‵ (froom tyPtr l54 0) ∷ ‵ (fdies tyPtr l54) ∷ ‵ (froom (tyInt w64) l53 0) ∷ ‵ (fdies (tyInt w64) l53) ∷ ‵ (froom MAnswerWords′.mir l52 0) ∷ ‵ (fdies MAnswerWords′.mir l52) ∷ ‵ (froom tyBool l51 0) ∷ ‵ (fdies tyBool l51) ∷ ‵ (froom tyPtr l50 0) ∷ ‵ (fdies tyPtr l50) ∷ ‵ (froom tyPtr l49 0) ∷ ‵ (fdies tyPtr l49) ∷ ‵ (froom tyPtr l48 0) ∷ ‵ (fdies tyPtr l48) ∷ ‵ (froom tyPtr l47 0) ∷ ‵ (fdies tyPtr l47) ∷ ‵ (froom MMasterWords′.mir l46 0) ∷ ‵ (fdies MMasterWords′.mir l46) ∷ ‵ (froom tyPtr l45 0) ∷ ‵ (fdies tyPtr l45) ∷ ‵ (froom MAnswerWords′.mir l44 0) ∷ ‵ (fdies MAnswerWords′.mir l44) ∷ ‵ (froom (tyInt w64) l43 0) ∷ ‵ (fdies (tyInt w64) l43) ∷ ‵ (froom MAnswerWords′.mir l42 0) ∷ ‵ (fdies MAnswerWords′.mir l42) ∷ ‵ (froom tyBool l41 0) ∷ ‵ (fdies tyBool l41) ∷ ‵ (froom (sliceTy (tyRef erased mut (tyInt w8))) l40 0) ∷ ‵ (fdies (sliceTy (tyRef erased mut (tyInt w8))) l40) ∷ ‵ (froom (tyRef erased mut (tyInt w8)) l39 0) ∷ ‵ (fdies (tyRef erased mut (tyInt w8)) l39) ∷ ‵ (froom (tyInt w16) l38 0) ∷ ‵ (fdies (tyInt w16) l38) ∷ ‵ (froom (tyInt w8) l37 0) ∷ ‵ (fdies (tyInt w8) l37) ∷ ‵ (froom MServo′.mir l36 0) ∷ ‵ (fdies MServo′.mir l36) ∷ ‵ (froom tyBool l35 0) ∷ ‵ (fdies tyBool l35) ∷ ‵ (froom tyBool l34 0) ∷ ‵ (fdies tyBool l34) ∷ ‵ (froom MAccepted′.mir l33 0) ∷ ‵ (fdies MAccepted′.mir l33) ∷ ‵ (froom MServo′.mir l32 0) ∷ ‵ (fdies MServo′.mir l32) ∷ ‵ (froom tyBool l31 0) ∷ ‵ (fdies tyBool l31) ∷ ‵ (froom MTold′.mir l30 0) ∷ ‵ (fdies MTold′.mir l30) ∷ ‵ (froom MDelaysWords′.mir l29 0) ∷ ‵ (fdies MDelaysWords′.mir l29) ∷ ‵ (froom MHalvesWords′.mir l28 0) ∷ ‵ (fdies MHalvesWords′.mir l28) ∷ ‵ (froom MEmptied′.mir l27 0) ∷ ‵ (fdies MEmptied′.mir l27) ∷ ‵ (froom tyBool l26 0) ∷ ‵ (fdies tyBool l26) ∷ ‵ (froom MHeld′.mir l25 0) ∷ ‵ (fdies MHeld′.mir l25) ∷ ‵ (froom MMasterWords′.mir l24 0) ∷ ‵ (fdies MMasterWords′.mir l24) ∷ ‵ (froom (tyInt w64) l23 0) ∷ ‵ (fdies (tyInt w64) l23) ∷ ‵ (froom tyBool l22 0) ∷ ‵ (fdies tyBool l22) ∷ ‵ (froom MSeat′.mir l21 0) ∷ ‵ (fdies MSeat′.mir l21) ∷ ‵ (froom MLooked′.mir l20 0) ∷ ‵ (fdies MLooked′.mir l20) ∷ ‵ (froom MLooked′.mir l19 0) ∷ ‵ (fdies MLooked′.mir l19) ∷ ‵ (froom MLooked′.mir l18 0) ∷ ‵ (fdies MLooked′.mir l18) ∷ ‵ (froom MLooked′.mir l17 0) ∷ ‵ (fdies MLooked′.mir l17) ∷ ‵ (froom MLooked′.mir l16 0) ∷ ‵ (fdies MLooked′.mir l16) ∷ ‵ (froom (tyInt w32) l15 0) ∷ ‵ (fdies (tyInt w32) l15) ∷ ‵ (froom tyBool l14 0) ∷ ‵ (fdies tyBool l14) ∷ ‵ (froom MStateWords′.mir l13 0) ∷ ‵ (fdies MStateWords′.mir l13) ∷ ‵ (froom MSettingsWords′.mir l12 0) ∷ ‵ (fdies MSettingsWords′.mir l12) ∷ ‵ (froom MMessage′.mir l11 0) ∷ ‵ (fdies MMessage′.mir l11) ∷ ‵ (froom tyBool l10 0) ∷ ‵ (fdies tyBool l10) ∷ ‵ (fat fullShare MReceived′.mir l9 0 w-3) ∷ ‵ (fdies MReceived′.mir l9) ∷ ‵ (fat fullShare (tyRef (named 5) mut (pointee (R-AnswerWords .written))) l8 0 (vptr b8 o8)) ∷ ‵ (fdies (tyRef (named 5) mut (pointee (R-AnswerWords .written))) l8) ∷ ‵ (fat fullShare MStamp′.mir l7 0 u7) ∷ ‵ (fdies MStamp′.mir l7) ∷ ‵ (fat fullShare (tyInt w64) l6 0 u6) ∷ ‵ (fdies (tyInt w64) l6) ∷ ‵ (froom (sliceTy (tyRef (named 4) mut (tyInt w8))) l5 0) ∷ ‵ (fdies (sliceTy (tyRef (named 4) mut (tyInt w8))) l5) ∷ ‵ (fat fullShare (tyRef (named 3) mut (pointee (R-Watch .written))) l4 0 (vptr b4 o4)) ∷ ‵ (fdies (tyRef (named 3) mut (pointee (R-Watch .written))) l4) ∷ ‵ (fat fullShare (sliceTy (tyRef (named 2) mut (pointee (R-MasterWords .written)))) l3 0 (sliceVal (b3, o3) (length h3))) ∷ ‵ (fdies (sliceTy (tyRef (named 2) mut (pointee (R-MasterWords .written)))) l3) ∷ ‵ (fat fullShare (tyRef (named 1) mut (pointee (R-Servo .written))) l2 0 (vptr b2 o2)) ∷ ‵ (fdies (tyRef (named 1) mut (pointee (R-Servo .written))) l2) ∷ ‵ (fat fullShare (tyRef (named 0) mut (pointee (R-UnitWords .written))) l1 0 (vptr b1 o1)) ∷ ‵ (fdies (tyRef (named 0) mut (pointee (R-UnitWords .written))) l1) ∷ ‵ (froom tyUnit l0 0) ∷ ‵ (fdies tyUnit l0) ∷ []) (runs C Λ En mir′.t-4 (atRet En Post))
       from-4 zs-8 len-9 p-4 w-3 e-6 is-7 =
-          rewrite ! 125 (λ (u : Val). ‵ (fat fullShare MReceived′.mir l9 0 u)) ((parts-Received p-4 w-3 is-7) .whole-is) refl $
-          assigns ! (of-opd ! (load ! (from ! (fld ! {τ = tyBool} {d = off-Received-2} field-Received-2 (stop !))) (look-in ! 125 (sub ! {ν = name-of MReceived′.mir} {τs = tys-of MReceived′.mir} 2 {τ = tyBool} {d = off-Received-2} field-Received-2 (whole !))))) (from ! (stop !)) (init ! 123 refl (lawful-bool 𝓤 H A W .typed (p-4 .barred) _ ((parts-Received p-4 w-3 is-7) .pg2) .0)) $
-          assigns ! (of-opd ! (load ! (from ! (stop !)) (look ! 123 refl))) (from ! (stop !)) (init ! 69 refl (lawful-bool 𝓤 H A W .typed (p-4 .barred) _ ((parts-Received p-4 w-3 is-7) .pg2) .0)) $
-          rewrite ! 69 (λ (u : Val). ‵ (fat fullShare tyBool l37 0 u)) (ap only (tells-bool (p-4 .barred) (((parts-Received p-4 w-3 is-7) .pu2) ∷ []) ((parts-Received p-4 w-3 is-7) .pg2))) refl $
+          rewrite ! 133 (λ (u : Val). ‵ (fat fullShare MReceived′.mir l9 0 u)) ((parts-Received p-4 w-3 is-7) .whole-is) refl $
+          assigns ! (of-opd ! (load ! (from ! (fld ! {τ = tyBool} {d = off-Received-2} field-Received-2 (stop !))) (look-in ! 133 (sub ! {ν = name-of MReceived′.mir} {τs = tys-of MReceived′.mir} 2 {τ = tyBool} {d = off-Received-2} field-Received-2 (whole !))))) (from ! (stop !)) (init ! 131 refl (lawful-bool 𝓤 H A W .typed (p-4 .barred) _ ((parts-Received p-4 w-3 is-7) .pg2) .0)) $
+          assigns ! (of-opd ! (load ! (from ! (stop !)) (look ! 131 refl))) (from ! (stop !)) (init ! 69 refl (lawful-bool 𝓤 H A W .typed (p-4 .barred) _ ((parts-Received p-4 w-3 is-7) .pg2) .0)) $
+          rewrite ! 69 (λ (u : Val). ‵ (fat fullShare tyBool l41 0 u)) (ap only (tells-bool (p-4 .barred) (((parts-Received p-4 w-3 is-7) .pu2) ∷ []) ((parts-Received p-4 w-3 is-7) .pg2))) refl $
           first ! $ branches ! (load ! (from ! (stop !)) (look ! 69 refl))
-          (λ held1. forget ! 141 refl $ forget ! 139 refl $ forget ! 137 refl $ forget ! 135 refl $ forget ! 131 refl $ forget ! 129 refl $ forget ! 123 refl $ forget ! 69 refl $ from-6-1 _ refl zs-8 len-9 p-4 w-3 e-6 is-7 held1)
+          (λ held1. forget ! 149 refl $ forget ! 147 refl $ forget ! 145 refl $ forget ! 143 refl $ forget ! 139 refl $ forget ! 137 refl $ forget ! 131 refl $ forget ! 69 refl $ from-6-1 _ refl zs-8 len-9 p-4 w-3 e-6 is-7 held1)
           (λ left1. skips ! $ exec ! C Λ En mir′.t-7 (atRet En Post) $
-          forget ! 123 refl $ forget ! 69 refl $
+          forget ! 131 refl $ forget ! 69 refl $
           from-7 zs-8 len-9 p-4 w-3 e-6 is-7 left1)
 
-      from-1 : Sq W (‵ (froom (tyRef erased mut (pointee (R-u8x128 .written))) l61 0) ∷ ‵ (fdies (tyRef erased mut (pointee (R-u8x128 .written))) l61) ∷ ‵ (froom (tyRef erased mut (pointee (R-i32x128 .written))) l60 0) ∷ ‵ (fdies (tyRef erased mut (pointee (R-i32x128 .written))) l60) ∷ ‵ (froom (tyRef erased mut (pointee (R-i64x128 .written))) l59 0) ∷ ‵ (fdies (tyRef erased mut (pointee (R-i64x128 .written))) l59) ∷ ‵ (froom MHead′.mir l58 0) ∷ ‵ (fdies MHead′.mir l58) ∷ ‵ (froom MAnswerWords′.mir l57 0) ∷ ‵ (fdies MAnswerWords′.mir l57) ∷ ‵ (froom MAnswerWords′.mir l56 0) ∷ ‵ (fdies MAnswerWords′.mir l56) ∷ ‵ (froom (tyRef erased mut (pointee (R-u8x128 .written))) l55 0) ∷ ‵ (fdies (tyRef erased mut (pointee (R-u8x128 .written))) l55) ∷ ‵ (froom (tyRef erased mut (pointee (R-i32x128 .written))) l54 0) ∷ ‵ (fdies (tyRef erased mut (pointee (R-i32x128 .written))) l54) ∷ ‵ (froom (tyRef erased mut (pointee (R-i64x128 .written))) l53 0) ∷ ‵ (fdies (tyRef erased mut (pointee (R-i64x128 .written))) l53) ∷ ‵ (froom MHead′.mir l52 0) ∷ ‵ (fdies MHead′.mir l52) ∷ ‵ (froom tyPtr l51 0) ∷ ‵ (fdies tyPtr l51) ∷ ‵ (froom tyPtr l50 0) ∷ ‵ (fdies tyPtr l50) ∷ ‵ (froom (tyInt w64) l49 0) ∷ ‵ (fdies (tyInt w64) l49) ∷ ‵ (froom MAnswerWords′.mir l48 0) ∷ ‵ (fdies MAnswerWords′.mir l48) ∷ ‵ (froom tyBool l47 0) ∷ ‵ (fdies tyBool l47) ∷ ‵ (froom tyPtr l46 0) ∷ ‵ (fdies tyPtr l46) ∷ ‵ (froom tyPtr l45 0) ∷ ‵ (fdies tyPtr l45) ∷ ‵ (froom tyPtr l44 0) ∷ ‵ (fdies tyPtr l44) ∷ ‵ (froom tyPtr l43 0) ∷ ‵ (fdies tyPtr l43) ∷ ‵ (froom MMasterWords′.mir l42 0) ∷ ‵ (fdies MMasterWords′.mir l42) ∷ ‵ (froom tyPtr l41 0) ∷ ‵ (fdies tyPtr l41) ∷ ‵ (froom MAnswerWords′.mir l40 0) ∷ ‵ (fdies MAnswerWords′.mir l40) ∷ ‵ (froom (tyInt w64) l39 0) ∷ ‵ (fdies (tyInt w64) l39) ∷ ‵ (froom MAnswerWords′.mir l38 0) ∷ ‵ (fdies MAnswerWords′.mir l38) ∷ ‵ (froom tyBool l37 0) ∷ ‵ (fdies tyBool l37) ∷ ‵ (froom (sliceTy (tyRef erased mut (tyInt w8))) l36 0) ∷ ‵ (fdies (sliceTy (tyRef erased mut (tyInt w8))) l36) ∷ ‵ (froom (tyRef erased mut (tyInt w8)) l35 0) ∷ ‵ (fdies (tyRef erased mut (tyInt w8)) l35) ∷ ‵ (froom tyBool l34 0) ∷ ‵ (fdies tyBool l34) ∷ ‵ (froom MServo′.mir l33 0) ∷ ‵ (fdies MServo′.mir l33) ∷ ‵ (froom MServo′.mir l32 0) ∷ ‵ (fdies MServo′.mir l32) ∷ ‵ (froom tyBool l31 0) ∷ ‵ (fdies tyBool l31) ∷ ‵ (froom MTold′.mir l30 0) ∷ ‵ (fdies MTold′.mir l30) ∷ ‵ (froom MDelaysWords′.mir l29 0) ∷ ‵ (fdies MDelaysWords′.mir l29) ∷ ‵ (froom MHalvesWords′.mir l28 0) ∷ ‵ (fdies MHalvesWords′.mir l28) ∷ ‵ (froom MEmptied′.mir l27 0) ∷ ‵ (fdies MEmptied′.mir l27) ∷ ‵ (froom tyBool l26 0) ∷ ‵ (fdies tyBool l26) ∷ ‵ (froom MHeld′.mir l25 0) ∷ ‵ (fdies MHeld′.mir l25) ∷ ‵ (froom MMasterWords′.mir l24 0) ∷ ‵ (fdies MMasterWords′.mir l24) ∷ ‵ (froom (tyInt w64) l23 0) ∷ ‵ (fdies (tyInt w64) l23) ∷ ‵ (froom tyBool l22 0) ∷ ‵ (fdies tyBool l22) ∷ ‵ (froom MSeat′.mir l21 0) ∷ ‵ (fdies MSeat′.mir l21) ∷ ‵ (froom MLooked′.mir l20 0) ∷ ‵ (fdies MLooked′.mir l20) ∷ ‵ (froom MLooked′.mir l19 0) ∷ ‵ (fdies MLooked′.mir l19) ∷ ‵ (froom MLooked′.mir l18 0) ∷ ‵ (fdies MLooked′.mir l18) ∷ ‵ (froom MLooked′.mir l17 0) ∷ ‵ (fdies MLooked′.mir l17) ∷ ‵ (froom MLooked′.mir l16 0) ∷ ‵ (fdies MLooked′.mir l16) ∷ ‵ (froom (tyInt w32) l15 0) ∷ ‵ (fdies (tyInt w32) l15) ∷ ‵ (froom tyBool l14 0) ∷ ‵ (fdies tyBool l14) ∷ ‵ (froom MStateWords′.mir l13 0) ∷ ‵ (fdies MStateWords′.mir l13) ∷ ‵ (froom MSettingsWords′.mir l12 0) ∷ ‵ (fdies MSettingsWords′.mir l12) ∷ ‵ (froom MMessage′.mir l11 0) ∷ ‵ (fdies MMessage′.mir l11) ∷ ‵ (froom tyBool l10 0) ∷ ‵ (fdies tyBool l10) ∷ ‵ (froom MReceived′.mir l9 0) ∷ ‵ (fdies MReceived′.mir l9) ∷ ‵ (fat fullShare (tyRef (named 5) mut (pointee (R-AnswerWords .written))) l8 0 (vptr b8 o8)) ∷ ‵ (fdies (tyRef (named 5) mut (pointee (R-AnswerWords .written))) l8) ∷ ‵ (fat fullShare MStamp′.mir l7 0 u7) ∷ ‵ (fdies MStamp′.mir l7) ∷ ‵ (fat fullShare (tyInt w64) l6 0 u6) ∷ ‵ (fdies (tyInt w64) l6) ∷ ‵ (fat fullShare (sliceTy (tyRef (named 4) mut (tyInt w8))) l5 0 (sliceVal (b5, o5) (length h5))) ∷ ‵ (fdies (sliceTy (tyRef (named 4) mut (tyInt w8))) l5) ∷ ‵ (fat fullShare (tyRef (named 3) mut (pointee (R-Watch .written))) l4 0 (vptr b4 o4)) ∷ ‵ (fdies (tyRef (named 3) mut (pointee (R-Watch .written))) l4) ∷ ‵ (fat fullShare (sliceTy (tyRef (named 2) mut (pointee (R-MasterWords .written)))) l3 0 (sliceVal (b3, o3) (length h3))) ∷ ‵ (fdies (sliceTy (tyRef (named 2) mut (pointee (R-MasterWords .written)))) l3) ∷ ‵ (fat fullShare (tyRef (named 1) mut (pointee (R-Servo .written))) l2 0 (vptr b2 o2)) ∷ ‵ (fdies (tyRef (named 1) mut (pointee (R-Servo .written))) l2) ∷ ‵ (fat fullShare (tyRef (named 0) mut (pointee (R-UnitWords .written))) l1 0 (vptr b1 o1)) ∷ ‵ (fdies (tyRef (named 0) mut (pointee (R-UnitWords .written))) l1) ∷ ‵ (froom tyUnit l0 0) ∷ ‵ (fdies tyUnit l0) ∷ (‵ (flft κ1 q1) ⊛ ‵ (flft κ2 q2) ⊛ ‵ (flft κ3 q3) ⊛ ‵ (flft κ4 q4) ⊛ ‵ (flft κ5 q5) ⊛ ‵ (flft κ8 q8) ⊛ ‵ ftrue) ∷ ‵ (owns (MutRef (named 0) κ1 R-UnitWords ∷ MutRef (named 1) κ2 R-Servo ∷ MutSlice (named 2) κ3 R-MasterWords ∷ MutRef (named 3) κ4 R-Watch ∷ MutSlice (named 4) κ5 R-u8 ∷ R-u64 ∷ R-Stamp ∷ MutRef (named 5) κ8 R-AnswerWords ∷ []) x at) ∷ []) (runs C Λ En mir′.t-1 (atRet En Post))
+      from-1 : Sq W (‵ (froom (tyRef erased mut (pointee (R-u8x128 .written))) l65 0) ∷ ‵ (fdies (tyRef erased mut (pointee (R-u8x128 .written))) l65) ∷ ‵ (froom (tyRef erased mut (pointee (R-i32x128 .written))) l64 0) ∷ ‵ (fdies (tyRef erased mut (pointee (R-i32x128 .written))) l64) ∷ ‵ (froom (tyRef erased mut (pointee (R-i64x128 .written))) l63 0) ∷ ‵ (fdies (tyRef erased mut (pointee (R-i64x128 .written))) l63) ∷ ‵ (froom MHead′.mir l62 0) ∷ ‵ (fdies MHead′.mir l62) ∷ ‵ (froom MAnswerWords′.mir l61 0) ∷ ‵ (fdies MAnswerWords′.mir l61) ∷ ‵ (froom MAnswerWords′.mir l60 0) ∷ ‵ (fdies MAnswerWords′.mir l60) ∷ ‵ (froom (tyRef erased mut (pointee (R-u8x128 .written))) l59 0) ∷ ‵ (fdies (tyRef erased mut (pointee (R-u8x128 .written))) l59) ∷ ‵ (froom (tyRef erased mut (pointee (R-i32x128 .written))) l58 0) ∷ ‵ (fdies (tyRef erased mut (pointee (R-i32x128 .written))) l58) ∷ ‵ (froom (tyRef erased mut (pointee (R-i64x128 .written))) l57 0) ∷ ‵ (fdies (tyRef erased mut (pointee (R-i64x128 .written))) l57) ∷ ‵ (froom MHead′.mir l56 0) ∷ ‵ (fdies MHead′.mir l56) ∷ ‵ (froom tyPtr l55 0) ∷ ‵ (fdies tyPtr l55) ∷ ‵ (froom tyPtr l54 0) ∷ ‵ (fdies tyPtr l54) ∷ ‵ (froom (tyInt w64) l53 0) ∷ ‵ (fdies (tyInt w64) l53) ∷ ‵ (froom MAnswerWords′.mir l52 0) ∷ ‵ (fdies MAnswerWords′.mir l52) ∷ ‵ (froom tyBool l51 0) ∷ ‵ (fdies tyBool l51) ∷ ‵ (froom tyPtr l50 0) ∷ ‵ (fdies tyPtr l50) ∷ ‵ (froom tyPtr l49 0) ∷ ‵ (fdies tyPtr l49) ∷ ‵ (froom tyPtr l48 0) ∷ ‵ (fdies tyPtr l48) ∷ ‵ (froom tyPtr l47 0) ∷ ‵ (fdies tyPtr l47) ∷ ‵ (froom MMasterWords′.mir l46 0) ∷ ‵ (fdies MMasterWords′.mir l46) ∷ ‵ (froom tyPtr l45 0) ∷ ‵ (fdies tyPtr l45) ∷ ‵ (froom MAnswerWords′.mir l44 0) ∷ ‵ (fdies MAnswerWords′.mir l44) ∷ ‵ (froom (tyInt w64) l43 0) ∷ ‵ (fdies (tyInt w64) l43) ∷ ‵ (froom MAnswerWords′.mir l42 0) ∷ ‵ (fdies MAnswerWords′.mir l42) ∷ ‵ (froom tyBool l41 0) ∷ ‵ (fdies tyBool l41) ∷ ‵ (froom (sliceTy (tyRef erased mut (tyInt w8))) l40 0) ∷ ‵ (fdies (sliceTy (tyRef erased mut (tyInt w8))) l40) ∷ ‵ (froom (tyRef erased mut (tyInt w8)) l39 0) ∷ ‵ (fdies (tyRef erased mut (tyInt w8)) l39) ∷ ‵ (froom (tyInt w16) l38 0) ∷ ‵ (fdies (tyInt w16) l38) ∷ ‵ (froom (tyInt w8) l37 0) ∷ ‵ (fdies (tyInt w8) l37) ∷ ‵ (froom MServo′.mir l36 0) ∷ ‵ (fdies MServo′.mir l36) ∷ ‵ (froom tyBool l35 0) ∷ ‵ (fdies tyBool l35) ∷ ‵ (froom tyBool l34 0) ∷ ‵ (fdies tyBool l34) ∷ ‵ (froom MAccepted′.mir l33 0) ∷ ‵ (fdies MAccepted′.mir l33) ∷ ‵ (froom MServo′.mir l32 0) ∷ ‵ (fdies MServo′.mir l32) ∷ ‵ (froom tyBool l31 0) ∷ ‵ (fdies tyBool l31) ∷ ‵ (froom MTold′.mir l30 0) ∷ ‵ (fdies MTold′.mir l30) ∷ ‵ (froom MDelaysWords′.mir l29 0) ∷ ‵ (fdies MDelaysWords′.mir l29) ∷ ‵ (froom MHalvesWords′.mir l28 0) ∷ ‵ (fdies MHalvesWords′.mir l28) ∷ ‵ (froom MEmptied′.mir l27 0) ∷ ‵ (fdies MEmptied′.mir l27) ∷ ‵ (froom tyBool l26 0) ∷ ‵ (fdies tyBool l26) ∷ ‵ (froom MHeld′.mir l25 0) ∷ ‵ (fdies MHeld′.mir l25) ∷ ‵ (froom MMasterWords′.mir l24 0) ∷ ‵ (fdies MMasterWords′.mir l24) ∷ ‵ (froom (tyInt w64) l23 0) ∷ ‵ (fdies (tyInt w64) l23) ∷ ‵ (froom tyBool l22 0) ∷ ‵ (fdies tyBool l22) ∷ ‵ (froom MSeat′.mir l21 0) ∷ ‵ (fdies MSeat′.mir l21) ∷ ‵ (froom MLooked′.mir l20 0) ∷ ‵ (fdies MLooked′.mir l20) ∷ ‵ (froom MLooked′.mir l19 0) ∷ ‵ (fdies MLooked′.mir l19) ∷ ‵ (froom MLooked′.mir l18 0) ∷ ‵ (fdies MLooked′.mir l18) ∷ ‵ (froom MLooked′.mir l17 0) ∷ ‵ (fdies MLooked′.mir l17) ∷ ‵ (froom MLooked′.mir l16 0) ∷ ‵ (fdies MLooked′.mir l16) ∷ ‵ (froom (tyInt w32) l15 0) ∷ ‵ (fdies (tyInt w32) l15) ∷ ‵ (froom tyBool l14 0) ∷ ‵ (fdies tyBool l14) ∷ ‵ (froom MStateWords′.mir l13 0) ∷ ‵ (fdies MStateWords′.mir l13) ∷ ‵ (froom MSettingsWords′.mir l12 0) ∷ ‵ (fdies MSettingsWords′.mir l12) ∷ ‵ (froom MMessage′.mir l11 0) ∷ ‵ (fdies MMessage′.mir l11) ∷ ‵ (froom tyBool l10 0) ∷ ‵ (fdies tyBool l10) ∷ ‵ (froom MReceived′.mir l9 0) ∷ ‵ (fdies MReceived′.mir l9) ∷ ‵ (fat fullShare (tyRef (named 5) mut (pointee (R-AnswerWords .written))) l8 0 (vptr b8 o8)) ∷ ‵ (fdies (tyRef (named 5) mut (pointee (R-AnswerWords .written))) l8) ∷ ‵ (fat fullShare MStamp′.mir l7 0 u7) ∷ ‵ (fdies MStamp′.mir l7) ∷ ‵ (fat fullShare (tyInt w64) l6 0 u6) ∷ ‵ (fdies (tyInt w64) l6) ∷ ‵ (fat fullShare (sliceTy (tyRef (named 4) mut (tyInt w8))) l5 0 (sliceVal (b5, o5) (length h5))) ∷ ‵ (fdies (sliceTy (tyRef (named 4) mut (tyInt w8))) l5) ∷ ‵ (fat fullShare (tyRef (named 3) mut (pointee (R-Watch .written))) l4 0 (vptr b4 o4)) ∷ ‵ (fdies (tyRef (named 3) mut (pointee (R-Watch .written))) l4) ∷ ‵ (fat fullShare (sliceTy (tyRef (named 2) mut (pointee (R-MasterWords .written)))) l3 0 (sliceVal (b3, o3) (length h3))) ∷ ‵ (fdies (sliceTy (tyRef (named 2) mut (pointee (R-MasterWords .written)))) l3) ∷ ‵ (fat fullShare (tyRef (named 1) mut (pointee (R-Servo .written))) l2 0 (vptr b2 o2)) ∷ ‵ (fdies (tyRef (named 1) mut (pointee (R-Servo .written))) l2) ∷ ‵ (fat fullShare (tyRef (named 0) mut (pointee (R-UnitWords .written))) l1 0 (vptr b1 o1)) ∷ ‵ (fdies (tyRef (named 0) mut (pointee (R-UnitWords .written))) l1) ∷ ‵ (froom tyUnit l0 0) ∷ ‵ (fdies tyUnit l0) ∷ (‵ (flft κ1 q1) ⊛ ‵ (flft κ2 q2) ⊛ ‵ (flft κ3 q3) ⊛ ‵ (flft κ4 q4) ⊛ ‵ (flft κ5 q5) ⊛ ‵ (flft κ8 q8) ⊛ ‵ ftrue) ∷ ‵ (owns (MutRef (named 0) κ1 R-UnitWords ∷ MutRef (named 1) κ2 R-Servo ∷ MutSlice (named 2) κ3 R-MasterWords ∷ MutRef (named 3) κ4 R-Watch ∷ MutSlice (named 4) κ5 R-u8 ∷ R-u64 ∷ R-Stamp ∷ MutRef (named 5) κ8 R-AnswerWords ∷ []) x at) ∷ []) (runs C Λ En mir′.t-1 (atRet En Post))
       from-1 =
-          assigns ! (addr ! (from ! (fld ! refl (hop ! (look-in ! 112 (sub ! 0 refl (whole !))) (stop !))))) (from ! (stop !)) (init ! 52 refl (tt, tt)) $
-          assigns ! (agg ! (and-then ! (load ! (from ! (stop !)) (look ! 52 refl)) (and-then ! (load ! (from ! (fld ! refl (stop !))) (look-in ! 112 (sub ! 1 refl (whole !)))) (no-more !)))) (from ! (stop !)) (init ! 50 refl (tt, (tt, (record { fits = room5 .0 }, tt)))) $
-          move ! (125 ∷ []) $
+          assigns ! (addr ! (from ! (fld ! refl (hop ! (look-in ! 120 (sub ! 0 refl (whole !))) (stop !))))) (from ! (stop !)) (init ! 52 refl (tt, tt)) $
+          assigns ! (agg ! (and-then ! (load ! (from ! (stop !)) (look ! 52 refl)) (and-then ! (load ! (from ! (fld ! refl (stop !))) (look-in ! 120 (sub ! 1 refl (whole !)))) (no-more !)))) (from ! (stop !)) (init ! 50 refl (tt, (tt, (record { fits = room5 .0 }, tt)))) $
+          move ! (133 ∷ []) $
           fsplit ! $
           fsplit3 ! $
           drop ! $
@@ -3017,7 +3019,7 @@ module _ {M : Type 1} (𝓤 : URA M) (H : Heap 𝓤) (A : Atoms 𝓤) (W : Given
           fsplit3 ! $
           drop ! $
           move ! (2 ∷ []) $
-          move ! (139 ∷ []) $
+          move ! (147 ∷ []) $
           split ! $
           move ! (1 ∷ []) $
           split ! $
@@ -3070,24 +3072,24 @@ module _ {M : Type 1} (𝓤 : URA M) (H : Heap 𝓤) (A : Atoms 𝓤) (W : Given
           move ! (0 ∷ 2 ∷ 1 ∷ []) $
           use3 W (later (‵ (MutSlice (named 4) κ5 R-u8 .own (x5 (ws-5 .0)) (sliceVal (b5, o5) (length h5) ∷ [])) ⊛ ‵ (flft κ5 q5))) (comes-back R-u8 κ5 (ν-1 ∷ []) q5 γ5 b5 o5 𝓤 H A W (named 4) (named 0) h5 δ-2 (ws-5 .0) room5 len-9) $ await ! tt $
           split ! $
-          land ! (from ! (stop !)) (init ! 125 refl (lawful-Received 𝓤 H A W .typed p-4 _ is-7 .0)) $
-          forget ! 133 refl $ forget ! 73 refl $ forget ! 71 refl $
+          land ! (from ! (stop !)) (init ! 133 refl (lawful-Received 𝓤 H A W .typed p-4 _ is-7 .0)) $
+          forget ! 141 refl $ forget ! 73 refl $ forget ! 71 refl $
           from-4 (ws-5 .0) len-9 p-4 w-3 e-6 is-7))))))))
 
     walk : ent 𝓤 (onEntry 𝓤 H A this.signature (κ1, (κ2, (κ3, (κ4, (κ5, (κ8, tt)))))) (q1, (q2, (q3, (q4, (q5, (q8, tt)))))) x at) (WpFn 𝓤 H C Λ code.function ((vptr b1 o1) ∷ (vptr b2 o2) ∷ (sliceVal (b3, o3) (length h3)) ∷ (vptr b4 o4) ∷ (sliceVal (b5, o5) (length h5)) ∷ u6 ∷ u7 ∷ (vptr b8 o8) ∷ []) Post)
     walk =
         qed W ((‵ (flft κ1 q1) ⊛ ‵ (flft κ2 q2) ⊛ ‵ (flft κ3 q3) ⊛ ‵ (flft κ4 q4) ⊛ ‵ (flft κ5 q5) ⊛ ‵ (flft κ8 q8) ⊛ ‵ ftrue) ∷ ‵ (owns (MutRef (named 0) κ1 R-UnitWords ∷ MutRef (named 1) κ2 R-Servo ∷ MutSlice (named 2) κ3 R-MasterWords ∷ MutRef (named 3) κ4 R-Watch ∷ MutSlice (named 4) κ5 R-u8 ∷ R-u64 ∷ R-Stamp ∷ MutRef (named 5) κ8 R-AnswerWords ∷ []) x at) ∷ []) ∵ enter ! C Λ code.function ((vptr b1 o1) ∷ (vptr b2 o2) ∷ (sliceVal (b3, o3) (length h3)) ∷ (vptr b4 o4) ∷ (sliceVal (b5, o5) (length h5)) ∷ u6 ∷ u7 ∷ (vptr b8 o8) ∷ []) _ $
-        alloc1 ! (λ l0. alloc1 ! (λ l1. alloc1 ! (λ l2. alloc1 ! (λ l3. alloc1 ! (λ l4. alloc1 ! (λ l5. alloc1 ! (λ l6. alloc1 ! (λ l7. alloc1 ! (λ l8. alloc1 ! (λ l9. alloc1 ! (λ l10. alloc1 ! (λ l11. alloc1 ! (λ l12. alloc1 ! (λ l13. alloc1 ! (λ l14. alloc1 ! (λ l15. alloc1 ! (λ l16. alloc1 ! (λ l17. alloc1 ! (λ l18. alloc1 ! (λ l19. alloc1 ! (λ l20. alloc1 ! (λ l21. alloc1 ! (λ l22. alloc1 ! (λ l23. alloc1 ! (λ l24. alloc1 ! (λ l25. alloc1 ! (λ l26. alloc1 ! (λ l27. alloc1 ! (λ l28. alloc1 ! (λ l29. alloc1 ! (λ l30. alloc1 ! (λ l31. alloc1 ! (λ l32. alloc1 ! (λ l33. alloc1 ! (λ l34. alloc1 ! (λ l35. alloc1 ! (λ l36. alloc1 ! (λ l37. alloc1 ! (λ l38. alloc1 ! (λ l39. alloc1 ! (λ l40. alloc1 ! (λ l41. alloc1 ! (λ l42. alloc1 ! (λ l43. alloc1 ! (λ l44. alloc1 ! (λ l45. alloc1 ! (λ l46. alloc1 ! (λ l47. alloc1 ! (λ l48. alloc1 ! (λ l49. alloc1 ! (λ l50. alloc1 ! (λ l51. alloc1 ! (λ l52. alloc1 ! (λ l53. alloc1 ! (λ l54. alloc1 ! (λ l55. alloc1 ! (λ l56. alloc1 ! (λ l57. alloc1 ! (λ l58. alloc1 ! (λ l59. alloc1 ! (λ l60. alloc1 ! (λ l61. alloc0 ! $ params1 ! $
-        pass1 ! (init ! 120 refl (tt, tt)) $
-        pass1 ! (init ! 118 refl (tt, tt)) $
-        pass1 ! (init ! 116 refl (tt, (tt, (record { fits = room3 .0 }, tt)))) $
+        alloc1 ! (λ l0. alloc1 ! (λ l1. alloc1 ! (λ l2. alloc1 ! (λ l3. alloc1 ! (λ l4. alloc1 ! (λ l5. alloc1 ! (λ l6. alloc1 ! (λ l7. alloc1 ! (λ l8. alloc1 ! (λ l9. alloc1 ! (λ l10. alloc1 ! (λ l11. alloc1 ! (λ l12. alloc1 ! (λ l13. alloc1 ! (λ l14. alloc1 ! (λ l15. alloc1 ! (λ l16. alloc1 ! (λ l17. alloc1 ! (λ l18. alloc1 ! (λ l19. alloc1 ! (λ l20. alloc1 ! (λ l21. alloc1 ! (λ l22. alloc1 ! (λ l23. alloc1 ! (λ l24. alloc1 ! (λ l25. alloc1 ! (λ l26. alloc1 ! (λ l27. alloc1 ! (λ l28. alloc1 ! (λ l29. alloc1 ! (λ l30. alloc1 ! (λ l31. alloc1 ! (λ l32. alloc1 ! (λ l33. alloc1 ! (λ l34. alloc1 ! (λ l35. alloc1 ! (λ l36. alloc1 ! (λ l37. alloc1 ! (λ l38. alloc1 ! (λ l39. alloc1 ! (λ l40. alloc1 ! (λ l41. alloc1 ! (λ l42. alloc1 ! (λ l43. alloc1 ! (λ l44. alloc1 ! (λ l45. alloc1 ! (λ l46. alloc1 ! (λ l47. alloc1 ! (λ l48. alloc1 ! (λ l49. alloc1 ! (λ l50. alloc1 ! (λ l51. alloc1 ! (λ l52. alloc1 ! (λ l53. alloc1 ! (λ l54. alloc1 ! (λ l55. alloc1 ! (λ l56. alloc1 ! (λ l57. alloc1 ! (λ l58. alloc1 ! (λ l59. alloc1 ! (λ l60. alloc1 ! (λ l61. alloc1 ! (λ l62. alloc1 ! (λ l63. alloc1 ! (λ l64. alloc1 ! (λ l65. alloc0 ! $ params1 ! $
+        pass1 ! (init ! 128 refl (tt, tt)) $
+        pass1 ! (init ! 126 refl (tt, tt)) $
+        pass1 ! (init ! 124 refl (tt, (tt, (record { fits = room3 .0 }, tt)))) $
+        pass1 ! (init ! 122 refl (tt, tt)) $
+        pass1 ! (init ! 120 refl (tt, (tt, (record { fits = room5 .0 }, tt)))) $
+        pass1 ! (init ! 118 refl (lawful-u64 𝓤 H A W .typed h6 _ g6 .0)) $
+        pass1 ! (init ! 116 refl (lawful-Stamp 𝓤 H A W .typed h7 _ g7 .0)) $
         pass1 ! (init ! 114 refl (tt, tt)) $
-        pass1 ! (init ! 112 refl (tt, (tt, (record { fits = room5 .0 }, tt)))) $
-        pass1 ! (init ! 110 refl (lawful-u64 𝓤 H A W .typed h6 _ g6 .0)) $
-        pass1 ! (init ! 108 refl (lawful-Stamp 𝓤 H A W .typed h7 _ g7 .0)) $
-        pass1 ! (init ! 106 refl (tt, tt)) $
         pass0 ! $
-        from-1 l0 l1 l2 l3 l4 l5 l6 l7 l8 l9 l10 l11 l12 l13 l14 l15 l16 l17 l18 l19 l20 l21 l22 l23 l24 l25 l26 l27 l28 l29 l30 l31 l32 l33 l34 l35 l36 l37 l38 l39 l40 l41 l42 l43 l44 l45 l46 l47 l48 l49 l50 l51 l52 l53 l54 l55 l56 l57 l58 l59 l60 l61))))))))))))))))))))))))))))))))))))))))))))))))))))))))))))))
+        from-1 l0 l1 l2 l3 l4 l5 l6 l7 l8 l9 l10 l11 l12 l13 l14 l15 l16 l17 l18 l19 l20 l21 l22 l23 l24 l25 l26 l27 l28 l29 l30 l31 l32 l33 l34 l35 l36 l37 l38 l39 l40 l41 l42 l43 l44 l45 l46 l47 l48 l49 l50 l51 l52 l53 l54 l55 l56 l57 l58 l59 l60 l61 l62 l63 l64 l65))))))))))))))))))))))))))))))))))))))))))))))))))))))))))))))))))
 
 module _ {M : Type 1} (𝓤 : URA M) (H : Heap 𝓤) (A : Atoms 𝓤) (W : Given 𝓤 H A) (mem : Memory → SProp 𝓤) (run : Routine → Fun 𝓤) where
   this-walks : (C : Calls 𝓤 H) (Λ : Loops 𝓤 H) → FmC 𝓤 H (W .laws) C → Triple 𝓤 (C #receive) (C-receive 𝓤 H A mem run) → Triple 𝓤 (C #refused) (C-refused 𝓤 H A mem run) → Triple 𝓤 (C #untabled) (C-untabled 𝓤 H A mem run) → Triple 𝓤 (C #span) (C-span 𝓤 H A mem run) → Triple 𝓤 (C #look) (C-look 𝓤 H A mem run) → Triple 𝓤 (C #seat-in) (C-seat-in 𝓤 H A mem run) → Triple 𝓤 (C #unseated) (C-unseated 𝓤 H A mem run) → Triple 𝓤 (C #place) (C-place 𝓤 H A mem run) → Triple 𝓤 (C #choose) (C-choose 𝓤 H A mem run) → Triple 𝓤 (C #clear) (C-clear 𝓤 H A mem run) → Triple 𝓤 (C #empty) (C-empty 𝓤 H A mem run) → Triple 𝓤 (C #hear) (C-hear 𝓤 H A mem run) → Triple 𝓤 (C #untold) (C-untold 𝓤 H A mem run) → Triple 𝓤 (C #steer) (C-steer 𝓤 H A mem run) → Triple 𝓤 (C #say) (C-say 𝓤 H A mem run) → Walks 𝓤 H A this.ended stayed (WpFn 𝓤 H C Λ code.function) (this.clauses 𝓤 H A mem run)

@@ -83,12 +83,12 @@ use Rattle.door_records.proofs.exchange.DelaysWords.Laws as MDelaysWords′
 use Rattle.door_steps.specs.declared.measuring.Told as STold
 use Rattle.door_steps.proofs.measuring.Told as MTold
 use Rattle.door_steps.proofs.measuring.Told.Laws as MTold′
-use Rattle.rules_watch.specs.declared.window.Head as SHead
-use Rattle.rules_watch.proofs.window.Head as MHead
-use Rattle.rules_watch.proofs.window.Head.Laws as MHead′
 use Rattle.rules_exchange.specs.declared.Accepted as SAccepted
 use Rattle.rules_exchange.proofs.Accepted as MAccepted
 use Rattle.rules_exchange.proofs.Accepted.Laws as MAccepted′
+use Rattle.rules_watch.specs.declared.window.Head as SHead
+use Rattle.rules_watch.proofs.window.Head as MHead
+use Rattle.rules_watch.proofs.window.Head.Laws as MHead′
 use Rattle.door_steps.proofs.measuring.send as f-send
 use Rattle.door_steps.proofs.measuring.send.Symbol as s-send
 use Rattle.door_steps.proofs.measuring.send.Symbol.{name as #send}
@@ -169,6 +169,50 @@ lone-u16 x vs g = tells-u16 x vs g ∙ ap (λ (us : List Val). only us ∷ []) (
 one-u16 : (x : ℕ) (vs : List Val) → Is R-u16 x vs → Is R-u16 x (only vs ∷ [])
 one-u16 x vs g = subst (Is R-u16 x) (lone-u16 x vs g) g
 
+abbrev R-bool : RattleType
+R-bool = bool
+
+abbrev v-bool : Bool → List Val
+v-bool = bool-vals
+
+tells-bool : Tells R-bool (Is R-bool) v-bool
+tells-bool = bool-tells
+
+lawful-bool : {M : Type 1} (𝓤 : URA M) (H : Heap 𝓤) (A : Atoms 𝓤) (W : Given 𝓤 H A) → Lawful 𝓤 H A R-bool
+lawful-bool 𝓤 H A W = bool-lawful 𝓤 H A W
+
+makes-bool : {M : Type 1} (𝓤 : URA M) (H : Heap 𝓤) (A : Atoms 𝓤) (W : Given 𝓤 H A) → Makes 𝓤 H A R-bool (Is R-bool)
+makes-bool 𝓤 H A W = bool-makes 𝓤 H A W
+
+-- it is one machine value
+lone-bool : (x : Bool) (vs : List Val) → Is R-bool x vs → vs ≡ only vs ∷ []
+lone-bool x vs g = tells-bool x vs g ∙ ap (λ (us : List Val). only us ∷ []) (sym (tells-bool x vs g))
+
+one-bool : (x : Bool) (vs : List Val) → Is R-bool x vs → Is R-bool x (only vs ∷ [])
+one-bool x vs g = subst (Is R-bool x) (lone-bool x vs g) g
+
+abbrev R-u8 : RattleType
+R-u8 = u8
+
+abbrev v-u8 : ℕ → List Val
+v-u8 = uint-vals w8
+
+tells-u8 : Tells R-u8 (Is R-u8) v-u8
+tells-u8 = uint-tells w8
+
+lawful-u8 : {M : Type 1} (𝓤 : URA M) (H : Heap 𝓤) (A : Atoms 𝓤) (W : Given 𝓤 H A) → Lawful 𝓤 H A R-u8
+lawful-u8 𝓤 H A W = uint-lawful 𝓤 H A W w8
+
+makes-u8 : {M : Type 1} (𝓤 : URA M) (H : Heap 𝓤) (A : Atoms 𝓤) (W : Given 𝓤 H A) → Makes 𝓤 H A R-u8 (Is R-u8)
+makes-u8 𝓤 H A W = uint-makes 𝓤 H A W w8
+
+-- it is one machine value
+lone-u8 : (x : ℕ) (vs : List Val) → Is R-u8 x vs → vs ≡ only vs ∷ []
+lone-u8 x vs g = tells-u8 x vs g ∙ ap (λ (us : List Val). only us ∷ []) (sym (tells-u8 x vs g))
+
+one-u8 : (x : ℕ) (vs : List Val) → Is R-u8 x vs → Is R-u8 x (only vs ∷ [])
+one-u8 x vs g = subst (Is R-u8 x) (lone-u8 x vs g) g
+
 abbrev R-i64 : RattleType
 R-i64 = i64
 
@@ -212,50 +256,6 @@ lone-i32 x vs g = tells-i32 x vs g ∙ ap (λ (us : List Val). only us ∷ []) (
 
 one-i32 : (x : ℤ) (vs : List Val) → Is R-i32 x vs → Is R-i32 x (only vs ∷ [])
 one-i32 x vs g = subst (Is R-i32 x) (lone-i32 x vs g) g
-
-abbrev R-u8 : RattleType
-R-u8 = u8
-
-abbrev v-u8 : ℕ → List Val
-v-u8 = uint-vals w8
-
-tells-u8 : Tells R-u8 (Is R-u8) v-u8
-tells-u8 = uint-tells w8
-
-lawful-u8 : {M : Type 1} (𝓤 : URA M) (H : Heap 𝓤) (A : Atoms 𝓤) (W : Given 𝓤 H A) → Lawful 𝓤 H A R-u8
-lawful-u8 𝓤 H A W = uint-lawful 𝓤 H A W w8
-
-makes-u8 : {M : Type 1} (𝓤 : URA M) (H : Heap 𝓤) (A : Atoms 𝓤) (W : Given 𝓤 H A) → Makes 𝓤 H A R-u8 (Is R-u8)
-makes-u8 𝓤 H A W = uint-makes 𝓤 H A W w8
-
--- it is one machine value
-lone-u8 : (x : ℕ) (vs : List Val) → Is R-u8 x vs → vs ≡ only vs ∷ []
-lone-u8 x vs g = tells-u8 x vs g ∙ ap (λ (us : List Val). only us ∷ []) (sym (tells-u8 x vs g))
-
-one-u8 : (x : ℕ) (vs : List Val) → Is R-u8 x vs → Is R-u8 x (only vs ∷ [])
-one-u8 x vs g = subst (Is R-u8 x) (lone-u8 x vs g) g
-
-abbrev R-bool : RattleType
-R-bool = bool
-
-abbrev v-bool : Bool → List Val
-v-bool = bool-vals
-
-tells-bool : Tells R-bool (Is R-bool) v-bool
-tells-bool = bool-tells
-
-lawful-bool : {M : Type 1} (𝓤 : URA M) (H : Heap 𝓤) (A : Atoms 𝓤) (W : Given 𝓤 H A) → Lawful 𝓤 H A R-bool
-lawful-bool 𝓤 H A W = bool-lawful 𝓤 H A W
-
-makes-bool : {M : Type 1} (𝓤 : URA M) (H : Heap 𝓤) (A : Atoms 𝓤) (W : Given 𝓤 H A) → Makes 𝓤 H A R-bool (Is R-bool)
-makes-bool 𝓤 H A W = bool-makes 𝓤 H A W
-
--- it is one machine value
-lone-bool : (x : Bool) (vs : List Val) → Is R-bool x vs → vs ≡ only vs ∷ []
-lone-bool x vs g = tells-bool x vs g ∙ ap (λ (us : List Val). only us ∷ []) (sym (tells-bool x vs g))
-
-one-bool : (x : Bool) (vs : List Val) → Is R-bool x vs → Is R-bool x (only vs ∷ [])
-one-bool x vs g = subst (Is R-bool x) (lone-bool x vs g) g
 
 abbrev R-u32 : RattleType
 R-u32 = u32
@@ -499,28 +499,6 @@ lone-Told x vs g = tells-Told x vs g ∙ ap (λ (us : List Val). only us ∷ [])
 one-Told : (x : STold.Told) (vs : List Val) → Is R-Told x vs → Is R-Told x (only vs ∷ [])
 one-Told x vs g = subst (Is R-Told x) (lone-Told x vs g) g
 
-abbrev R-Head : RattleType
-R-Head = MHead.the-row
-
-abbrev v-Head : SHead.Head → List Val
-v-Head = LL.vals MHead.the-type MHead′.the-laws
-
-tells-Head : Tells R-Head (Is R-Head) v-Head
-tells-Head = LL.tells MHead.the-type MHead′.the-laws
-
-lawful-Head : {M : Type 1} (𝓤 : URA M) (H : Heap 𝓤) (A : Atoms 𝓤) (W : Given 𝓤 H A) → Lawful 𝓤 H A R-Head
-lawful-Head 𝓤 H A W = LL.lawful MHead.the-type MHead′.the-laws 𝓤 H A W
-
-makes-Head : {M : Type 1} (𝓤 : URA M) (H : Heap 𝓤) (A : Atoms 𝓤) (W : Given 𝓤 H A) → Makes 𝓤 H A R-Head (Is R-Head)
-makes-Head 𝓤 H A W = LL.makes MHead.the-type MHead′.the-plain 𝓤 H A
-
--- it is one machine value
-lone-Head : (x : SHead.Head) (vs : List Val) → Is R-Head x vs → vs ≡ only vs ∷ []
-lone-Head x vs g = tells-Head x vs g ∙ ap (λ (us : List Val). only us ∷ []) (sym (tells-Head x vs g))
-
-one-Head : (x : SHead.Head) (vs : List Val) → Is R-Head x vs → Is R-Head x (only vs ∷ [])
-one-Head x vs g = subst (Is R-Head x) (lone-Head x vs g) g
-
 abbrev R-Accepted : RattleType
 R-Accepted = MAccepted.the-row
 
@@ -542,6 +520,28 @@ lone-Accepted x vs g = tells-Accepted x vs g ∙ ap (λ (us : List Val). only us
 
 one-Accepted : (x : SAccepted.Accepted) (vs : List Val) → Is R-Accepted x vs → Is R-Accepted x (only vs ∷ [])
 one-Accepted x vs g = subst (Is R-Accepted x) (lone-Accepted x vs g) g
+
+abbrev R-Head : RattleType
+R-Head = MHead.the-row
+
+abbrev v-Head : SHead.Head → List Val
+v-Head = LL.vals MHead.the-type MHead′.the-laws
+
+tells-Head : Tells R-Head (Is R-Head) v-Head
+tells-Head = LL.tells MHead.the-type MHead′.the-laws
+
+lawful-Head : {M : Type 1} (𝓤 : URA M) (H : Heap 𝓤) (A : Atoms 𝓤) (W : Given 𝓤 H A) → Lawful 𝓤 H A R-Head
+lawful-Head 𝓤 H A W = LL.lawful MHead.the-type MHead′.the-laws 𝓤 H A W
+
+makes-Head : {M : Type 1} (𝓤 : URA M) (H : Heap 𝓤) (A : Atoms 𝓤) (W : Given 𝓤 H A) → Makes 𝓤 H A R-Head (Is R-Head)
+makes-Head 𝓤 H A W = LL.makes MHead.the-type MHead′.the-plain 𝓤 H A
+
+-- it is one machine value
+lone-Head : (x : SHead.Head) (vs : List Val) → Is R-Head x vs → vs ≡ only vs ∷ []
+lone-Head x vs g = tells-Head x vs g ∙ ap (λ (us : List Val). only us ∷ []) (sym (tells-Head x vs g))
+
+one-Head : (x : SHead.Head) (vs : List Val) → Is R-Head x vs → Is R-Head x (only vs ∷ [])
+one-Head x vs g = subst (Is R-Head x) (lone-Head x vs g) g
 
 abbrev R-i64x128 : RattleType
 R-i64x128 = Array R-i64 128
@@ -945,14 +945,14 @@ module _ {M : Type 1} (𝓤 : URA M) (H : Heap 𝓤) (A : Atoms 𝓤) (at-mem : 
   abbrev C-steer : Contract 𝓤
   C-steer = tripleOf 𝓤 H A f-steer.signature (f-steer.spec 𝓤 H A at-mem run)
 
-  ensures-steer : (x0 : SServo.Servo) (x1 : SSettingsWords.SettingsWords) (x2 : STold.Told) (p : SServo.Servo) → ent 𝓤 (ensured 𝓤 H A f-steer.ended (f-steer.clauses 𝓤 H A at-mem run) tt (x0, (x1, (x2, tt))) tt p) (fact 𝓤 (p ≡ servoAfter x1 x0 (x2 .found) (x2 .steers) (x2 .wipes)))
-  ensures-steer x0 x1 x2 p = exE 𝓤 _ (λ ws. snd∗ 𝓤 (sem 𝓤 H A (lasts f-steer.ended tt (x0, (x1, (x2, tt))) ws)) (fact 𝓤 (p ≡ servoAfter x1 x0 (x2 .found) (x2 .steers) (x2 .wipes))))
+  ensures-steer : (x0 : SServo.Servo) (x1 : SSettingsWords.SettingsWords) (x2 : SAccepted.Accepted) (x3 : Bool) (x4 : Bool) (p : SServo.Servo) → ent 𝓤 (ensured 𝓤 H A f-steer.ended (f-steer.clauses 𝓤 H A at-mem run) tt (x0, (x1, (x2, (x3, (x4, tt))))) tt p) (fact 𝓤 (p ≡ servoAfter x1 x0 x2 x3 x4))
+  ensures-steer x0 x1 x2 x3 x4 p = exE 𝓤 _ (λ ws. snd∗ 𝓤 (sem 𝓤 H A (lasts f-steer.ended tt (x0, (x1, (x2, (x3, (x4, tt))))) ws)) (fact 𝓤 (p ≡ servoAfter x1 x0 x2 x3 x4)))
 
   abbrev C-say : Contract 𝓤
   C-say = tripleOf 𝓤 H A f-say.signature (f-say.spec 𝓤 H A at-mem run)
 
-  ensures-say : (x0 : STold.Told) (x1 : SServo.Servo) (p : SAnswerWords.AnswerWords) → ent 𝓤 (ensured 𝓤 H A f-say.ended (f-say.clauses 𝓤 H A at-mem run) tt (x0, (x1, tt)) tt p) (fact 𝓤 (p ≡ outputSaid (x0 .code) (x0 .sequence) (x0 .found) (x0 .steers) x1))
-  ensures-say x0 x1 p = exE 𝓤 _ (λ ws. snd∗ 𝓤 (sem 𝓤 H A (lasts f-say.ended tt (x0, (x1, tt)) ws)) (fact 𝓤 (p ≡ outputSaid (x0 .code) (x0 .sequence) (x0 .found) (x0 .steers) x1)))
+  ensures-say : (x0 : ℕ) (x1 : ℕ) (x2 : SAccepted.Accepted) (x3 : Bool) (x4 : SServo.Servo) (p : SAnswerWords.AnswerWords) → ent 𝓤 (ensured 𝓤 H A f-say.ended (f-say.clauses 𝓤 H A at-mem run) tt (x0, (x1, (x2, (x3, (x4, tt))))) tt p) (fact 𝓤 (p ≡ outputSaid x0 x1 x2 x3 x4))
+  ensures-say x0 x1 x2 x3 x4 p = exE 𝓤 _ (λ ws. snd∗ 𝓤 (sem 𝓤 H A (lasts f-say.ended tt (x0, (x1, (x2, (x3, (x4, tt))))) ws)) (fact 𝓤 (p ≡ outputSaid x0 x1 x2 x3 x4)))
 
   abbrev C-empty : Contract 𝓤
   C-empty = tripleOf 𝓤 H A f-empty.signature (f-empty.spec 𝓤 H A at-mem run)
@@ -970,17 +970,17 @@ module _ {M : Type 1} (𝓤 : URA M) (H : Heap 𝓤) (A : Atoms 𝓤) (W : Given
   goes-untold : (x0 : STold.Told) (u0 : Val) (g0 : Is R-Told x0 (u0 ∷ [])) → ent 𝓤 (emp 𝓤) (C-untold 𝓤 H A at-mem run .pre (to-untold x0 u0))
   goes-untold x0 u0 g0 = qed W [] ∵ nothing ! $ owned ! R-Told (Is R-Told) (makes-Told 𝓤 H A W) x0 _ g0 $ fjoin ! $ nothing ! $ join ! $ frame ! $ done !
 
-  abbrev to-steer : (x0 : SServo.Servo) (u0 : Val) (x1 : SSettingsWords.SettingsWords) (u1 : Val) (x2 : STold.Told) (u2 : Val) → C-steer 𝓤 H A at-mem run .Ghost
-  to-steer x0 u0 x1 u1 x2 u2 = ((tt, tt, tt, (x0, (x1, (x2, tt))), (u0 ∷ [], (u1 ∷ [], (u2 ∷ [], tt)))), tt)
+  abbrev to-steer : (x0 : SServo.Servo) (u0 : Val) (x1 : SSettingsWords.SettingsWords) (u1 : Val) (x2 : SAccepted.Accepted) (u2 : Val) (x3 : Bool) (u3 : Val) (x4 : Bool) (u4 : Val) → C-steer 𝓤 H A at-mem run .Ghost
+  to-steer x0 u0 x1 u1 x2 u2 x3 u3 x4 u4 = ((tt, tt, tt, (x0, (x1, (x2, (x3, (x4, tt))))), (u0 ∷ [], (u1 ∷ [], (u2 ∷ [], (u3 ∷ [], (u4 ∷ [], tt)))))), tt)
 
-  goes-steer : (x0 : SServo.Servo) (u0 : Val) (g0 : Is R-Servo x0 (u0 ∷ [])) (x1 : SSettingsWords.SettingsWords) (u1 : Val) (g1 : Is R-SettingsWords x1 (u1 ∷ [])) (x2 : STold.Told) (u2 : Val) (g2 : Is R-Told x2 (u2 ∷ [])) → ent 𝓤 (emp 𝓤) (C-steer 𝓤 H A at-mem run .pre (to-steer x0 u0 x1 u1 x2 u2))
-  goes-steer x0 u0 g0 x1 u1 g1 x2 u2 g2 = qed W [] ∵ nothing ! $ owned ! R-Told (Is R-Told) (makes-Told 𝓤 H A W) x2 _ g2 $ fjoin ! $ owned ! R-SettingsWords (Is R-SettingsWords) (makes-SettingsWords 𝓤 H A W) x1 _ g1 $ fjoin ! $ owned ! R-Servo (Is R-Servo) (makes-Servo 𝓤 H A W) x0 _ g0 $ fjoin ! $ nothing ! $ join ! $ frame ! $ done !
+  goes-steer : (x0 : SServo.Servo) (u0 : Val) (g0 : Is R-Servo x0 (u0 ∷ [])) (x1 : SSettingsWords.SettingsWords) (u1 : Val) (g1 : Is R-SettingsWords x1 (u1 ∷ [])) (x2 : SAccepted.Accepted) (u2 : Val) (g2 : Is R-Accepted x2 (u2 ∷ [])) (x3 : Bool) (u3 : Val) (g3 : Is R-bool x3 (u3 ∷ [])) (x4 : Bool) (u4 : Val) (g4 : Is R-bool x4 (u4 ∷ [])) → ent 𝓤 (emp 𝓤) (C-steer 𝓤 H A at-mem run .pre (to-steer x0 u0 x1 u1 x2 u2 x3 u3 x4 u4))
+  goes-steer x0 u0 g0 x1 u1 g1 x2 u2 g2 x3 u3 g3 x4 u4 g4 = qed W [] ∵ nothing ! $ owned ! R-bool (Is R-bool) (makes-bool 𝓤 H A W) x4 _ g4 $ fjoin ! $ owned ! R-bool (Is R-bool) (makes-bool 𝓤 H A W) x3 _ g3 $ fjoin ! $ owned ! R-Accepted (Is R-Accepted) (makes-Accepted 𝓤 H A W) x2 _ g2 $ fjoin ! $ owned ! R-SettingsWords (Is R-SettingsWords) (makes-SettingsWords 𝓤 H A W) x1 _ g1 $ fjoin ! $ owned ! R-Servo (Is R-Servo) (makes-Servo 𝓤 H A W) x0 _ g0 $ fjoin ! $ nothing ! $ join ! $ frame ! $ done !
 
-  abbrev to-say : (x0 : STold.Told) (u0 : Val) (x1 : SServo.Servo) (u1 : Val) → C-say 𝓤 H A at-mem run .Ghost
-  to-say x0 u0 x1 u1 = ((tt, tt, tt, (x0, (x1, tt)), (u0 ∷ [], (u1 ∷ [], tt))), tt)
+  abbrev to-say : (x0 : ℕ) (u0 : Val) (x1 : ℕ) (u1 : Val) (x2 : SAccepted.Accepted) (u2 : Val) (x3 : Bool) (u3 : Val) (x4 : SServo.Servo) (u4 : Val) → C-say 𝓤 H A at-mem run .Ghost
+  to-say x0 u0 x1 u1 x2 u2 x3 u3 x4 u4 = ((tt, tt, tt, (x0, (x1, (x2, (x3, (x4, tt))))), (u0 ∷ [], (u1 ∷ [], (u2 ∷ [], (u3 ∷ [], (u4 ∷ [], tt)))))), tt)
 
-  goes-say : (x0 : STold.Told) (u0 : Val) (g0 : Is R-Told x0 (u0 ∷ [])) (x1 : SServo.Servo) (u1 : Val) (g1 : Is R-Servo x1 (u1 ∷ [])) → ent 𝓤 (emp 𝓤) (C-say 𝓤 H A at-mem run .pre (to-say x0 u0 x1 u1))
-  goes-say x0 u0 g0 x1 u1 g1 = qed W [] ∵ nothing ! $ owned ! R-Servo (Is R-Servo) (makes-Servo 𝓤 H A W) x1 _ g1 $ fjoin ! $ owned ! R-Told (Is R-Told) (makes-Told 𝓤 H A W) x0 _ g0 $ fjoin ! $ nothing ! $ join ! $ frame ! $ done !
+  goes-say : (x0 : ℕ) (u0 : Val) (g0 : Is R-u8 x0 (u0 ∷ [])) (x1 : ℕ) (u1 : Val) (g1 : Is R-u16 x1 (u1 ∷ [])) (x2 : SAccepted.Accepted) (u2 : Val) (g2 : Is R-Accepted x2 (u2 ∷ [])) (x3 : Bool) (u3 : Val) (g3 : Is R-bool x3 (u3 ∷ [])) (x4 : SServo.Servo) (u4 : Val) (g4 : Is R-Servo x4 (u4 ∷ [])) → ent 𝓤 (emp 𝓤) (C-say 𝓤 H A at-mem run .pre (to-say x0 u0 x1 u1 x2 u2 x3 u3 x4 u4))
+  goes-say x0 u0 g0 x1 u1 g1 x2 u2 g2 x3 u3 g3 x4 u4 g4 = qed W [] ∵ nothing ! $ owned ! R-Servo (Is R-Servo) (makes-Servo 𝓤 H A W) x4 _ g4 $ fjoin ! $ owned ! R-bool (Is R-bool) (makes-bool 𝓤 H A W) x3 _ g3 $ fjoin ! $ owned ! R-Accepted (Is R-Accepted) (makes-Accepted 𝓤 H A W) x2 _ g2 $ fjoin ! $ owned ! R-u16 (Is R-u16) (makes-u16 𝓤 H A W) x1 _ g1 $ fjoin ! $ owned ! R-u8 (Is R-u8) (makes-u8 𝓤 H A W) x0 _ g0 $ fjoin ! $ nothing ! $ join ! $ frame ! $ done !
 
   abbrev to-empty : (ν0 : ℕ) (δ0 : GName) (c0 d0 : ℕ) (y0 : (List ℤ)) (ν1 : ℕ) (δ1 : GName) (c1 d1 : ℕ) (y1 : (List ℤ)) (ν2 : ℕ) (δ2 : GName) (c2 d2 : ℕ) (y2 : (List ℕ)) → C-empty 𝓤 H A at-mem run .Ghost
   to-empty ν0 δ0 c0 d0 y0 ν1 δ1 c1 d1 y1 ν2 δ2 c2 d2 y2 = (((ν0 ∷ [], (ν1 ∷ [], (ν2 ∷ [], tt))), (fullShare, (fullShare, (fullShare, tt))), tt, ((record { ptr = (c0, d0); name = δ0; now = y0 }), ((record { ptr = (c1, d1); name = δ1; now = y1 }), ((record { ptr = (c2, d2); name = δ2; now = y2 }), tt))), (vptr c0 d0 ∷ [], (vptr c1 d1 ∷ [], (vptr c2 d2 ∷ [], tt)))), tt)
@@ -1019,13 +1019,13 @@ module _ {M : Type 1} (𝓤 : URA M) (H : Heap 𝓤) (A : Atoms 𝓤) (W : Given
       nothing ! $ move ! (12 ∷ 0 ∷ []) $ join ! $ move ! (9 ∷ 0 ∷ []) $ join ! $ move ! (6 ∷ 0 ∷ []) $ join ! $ move ! (3 ∷ 0 ∷ []) $ join ! $ frame ! $ move ! (6 ∷ 7 ∷ []) $ feqI ! (List Val) ((vptr b7 o7) ∷ []) ((vptr b7 o7) ∷ []) refl $ fjoin3 ! $ move ! (0 ∷ 10 ∷ []) $ fjoin ! $ move ! (9 ∷ 0 ∷ []) $ fjoin ! $ move ! (8 ∷ 0 ∷ []) $ fjoin ! $ move ! (7 ∷ 0 ∷ []) $ fjoin ! $ move ! (5 ∷ 6 ∷ []) $ feqI ! (List Val) ((vptr b3 o3) ∷ []) ((vptr b3 o3) ∷ []) refl $ fjoin3 ! $ fjoin ! $ move ! (3 ∷ 4 ∷ []) $ feqI ! (List Val) ((vptr b2 o2) ∷ []) ((vptr b2 o2) ∷ []) refl $ fjoin3 ! $ fjoin ! $ move ! (1 ∷ 2 ∷ []) $ feqI ! (List Val) ((vptr b1 o1) ∷ []) ((vptr b1 o1) ∷ []) refl $ fjoin3 ! $ fjoin ! $ frame ! $ feqI ! (List Val) (vunit ∷ []) (vunit ∷ []) refl $ done !
 
   module _ (C : Calls 𝓤 H) (Λ : Loops 𝓤 H) (fm : FmC 𝓤 H (W .laws) C) (known-send : Triple 𝓤 (C #send) (C-send 𝓤 H A at-mem run)) (known-untold : Triple 𝓤 (C #untold) (C-untold 𝓤 H A at-mem run)) (known-steer : Triple 𝓤 (C #steer) (C-steer 𝓤 H A at-mem run)) (known-say : Triple 𝓤 (C #say) (C-say 𝓤 H A at-mem run)) (known-empty : Triple 𝓤 (C #empty) (C-empty 𝓤 H A at-mem run)) where
-    module _ (l0 l1 l2 l3 l4 l5 l6 l7 l8 l9 l10 l11 l12 l13 l14 l15 l16 l17 l18 l19 l20 l21 l22 l23 : ℕ) where
+    module _ (l0 l1 l2 l3 l4 l5 l6 l7 l8 l9 l10 l11 l12 l13 l14 l15 l16 l17 l18 l19 l20 l21 l22 l23 l24 l25 l26 l27 : ℕ) where
       abbrev En : Env 𝓤 H
-      En = (tyUnit, l0) ∷ ((tyRef (named 0) mut (pointee (R-UnitWords .written))), l1) ∷ ((tyRef (named 1) mut (pointee (R-Servo .written))), l2) ∷ ((tyRef (named 2) mut (pointee (R-Watch .written))), l3) ∷ ((tyInt w64), l4) ∷ ((tyInt w16), l5) ∷ (MStamp′.mir, l6) ∷ ((tyRef (named 3) mut (pointee (R-AnswerWords .written))), l7) ∷ (MSettingsWords′.mir, l8) ∷ (MStateWords′.mir, l9) ∷ (MHalvesWords′.mir, l10) ∷ (MDelaysWords′.mir, l11) ∷ (MTold′.mir, l12) ∷ (tyBool, l13) ∷ (MServo′.mir, l14) ∷ (MServo′.mir, l15) ∷ (tyBool, l16) ∷ (tyBool, l17) ∷ (MAnswerWords′.mir, l18) ∷ (MAnswerWords′.mir, l19) ∷ (MHead′.mir, l20) ∷ ((tyRef erased mut (pointee (R-i64x128 .written))), l21) ∷ ((tyRef erased mut (pointee (R-i32x128 .written))), l22) ∷ ((tyRef erased mut (pointee (R-u8x128 .written))), l23) ∷ []
+      En = (tyUnit, l0) ∷ ((tyRef (named 0) mut (pointee (R-UnitWords .written))), l1) ∷ ((tyRef (named 1) mut (pointee (R-Servo .written))), l2) ∷ ((tyRef (named 2) mut (pointee (R-Watch .written))), l3) ∷ ((tyInt w64), l4) ∷ ((tyInt w16), l5) ∷ (MStamp′.mir, l6) ∷ ((tyRef (named 3) mut (pointee (R-AnswerWords .written))), l7) ∷ (MSettingsWords′.mir, l8) ∷ (MStateWords′.mir, l9) ∷ (MHalvesWords′.mir, l10) ∷ (MDelaysWords′.mir, l11) ∷ (MTold′.mir, l12) ∷ (tyBool, l13) ∷ (MServo′.mir, l14) ∷ (MAccepted′.mir, l15) ∷ (tyBool, l16) ∷ (tyBool, l17) ∷ (MServo′.mir, l18) ∷ ((tyInt w8), l19) ∷ ((tyInt w16), l20) ∷ (tyBool, l21) ∷ (MAnswerWords′.mir, l22) ∷ (MAnswerWords′.mir, l23) ∷ (MHead′.mir, l24) ∷ ((tyRef erased mut (pointee (R-i64x128 .written))), l25) ∷ ((tyRef erased mut (pointee (R-i32x128 .written))), l26) ∷ ((tyRef erased mut (pointee (R-u8x128 .written))), l27) ∷ []
 
       -- every local is freed
-      freed : (Γ : List (Item 𝓤)) (v : Val) → Sq W Γ (prop (Post v)) → Sq W (‵ (froom tyUnit l0 0) ∷ ‵ (fdies tyUnit l0) ∷ ‵ (froom (tyRef (named 0) mut (pointee (R-UnitWords .written))) l1 0) ∷ ‵ (fdies (tyRef (named 0) mut (pointee (R-UnitWords .written))) l1) ∷ ‵ (froom (tyRef (named 1) mut (pointee (R-Servo .written))) l2 0) ∷ ‵ (fdies (tyRef (named 1) mut (pointee (R-Servo .written))) l2) ∷ ‵ (froom (tyRef (named 2) mut (pointee (R-Watch .written))) l3 0) ∷ ‵ (fdies (tyRef (named 2) mut (pointee (R-Watch .written))) l3) ∷ ‵ (froom (tyInt w64) l4 0) ∷ ‵ (fdies (tyInt w64) l4) ∷ ‵ (froom (tyInt w16) l5 0) ∷ ‵ (fdies (tyInt w16) l5) ∷ ‵ (froom MStamp′.mir l6 0) ∷ ‵ (fdies MStamp′.mir l6) ∷ ‵ (froom (tyRef (named 3) mut (pointee (R-AnswerWords .written))) l7 0) ∷ ‵ (fdies (tyRef (named 3) mut (pointee (R-AnswerWords .written))) l7) ∷ ‵ (froom MSettingsWords′.mir l8 0) ∷ ‵ (fdies MSettingsWords′.mir l8) ∷ ‵ (froom MStateWords′.mir l9 0) ∷ ‵ (fdies MStateWords′.mir l9) ∷ ‵ (froom MHalvesWords′.mir l10 0) ∷ ‵ (fdies MHalvesWords′.mir l10) ∷ ‵ (froom MDelaysWords′.mir l11 0) ∷ ‵ (fdies MDelaysWords′.mir l11) ∷ ‵ (froom MTold′.mir l12 0) ∷ ‵ (fdies MTold′.mir l12) ∷ ‵ (froom tyBool l13 0) ∷ ‵ (fdies tyBool l13) ∷ ‵ (froom MServo′.mir l14 0) ∷ ‵ (fdies MServo′.mir l14) ∷ ‵ (froom MServo′.mir l15 0) ∷ ‵ (fdies MServo′.mir l15) ∷ ‵ (froom tyBool l16 0) ∷ ‵ (fdies tyBool l16) ∷ ‵ (froom tyBool l17 0) ∷ ‵ (fdies tyBool l17) ∷ ‵ (froom MAnswerWords′.mir l18 0) ∷ ‵ (fdies MAnswerWords′.mir l18) ∷ ‵ (froom MAnswerWords′.mir l19 0) ∷ ‵ (fdies MAnswerWords′.mir l19) ∷ ‵ (froom MHead′.mir l20 0) ∷ ‵ (fdies MHead′.mir l20) ∷ ‵ (froom (tyRef erased mut (pointee (R-i64x128 .written))) l21 0) ∷ ‵ (fdies (tyRef erased mut (pointee (R-i64x128 .written))) l21) ∷ ‵ (froom (tyRef erased mut (pointee (R-i32x128 .written))) l22 0) ∷ ‵ (fdies (tyRef erased mut (pointee (R-i32x128 .written))) l22) ∷ ‵ (froom (tyRef erased mut (pointee (R-u8x128 .written))) l23 0) ∷ ‵ (fdies (tyRef erased mut (pointee (R-u8x128 .written))) l23) ∷ Γ) (frees En (prop (Post v)))
-      freed Γ v s = free1 ! $ free1 ! $ free1 ! $ free1 ! $ free1 ! $ free1 ! $ free1 ! $ free1 ! $ free1 ! $ free1 ! $ free1 ! $ free1 ! $ free1 ! $ free1 ! $ free1 ! $ free1 ! $ free1 ! $ free1 ! $ free1 ! $ free1 ! $ free1 ! $ free1 ! $ free1 ! $ free1 ! $ free0 ! $ s
+      freed : (Γ : List (Item 𝓤)) (v : Val) → Sq W Γ (prop (Post v)) → Sq W (‵ (froom tyUnit l0 0) ∷ ‵ (fdies tyUnit l0) ∷ ‵ (froom (tyRef (named 0) mut (pointee (R-UnitWords .written))) l1 0) ∷ ‵ (fdies (tyRef (named 0) mut (pointee (R-UnitWords .written))) l1) ∷ ‵ (froom (tyRef (named 1) mut (pointee (R-Servo .written))) l2 0) ∷ ‵ (fdies (tyRef (named 1) mut (pointee (R-Servo .written))) l2) ∷ ‵ (froom (tyRef (named 2) mut (pointee (R-Watch .written))) l3 0) ∷ ‵ (fdies (tyRef (named 2) mut (pointee (R-Watch .written))) l3) ∷ ‵ (froom (tyInt w64) l4 0) ∷ ‵ (fdies (tyInt w64) l4) ∷ ‵ (froom (tyInt w16) l5 0) ∷ ‵ (fdies (tyInt w16) l5) ∷ ‵ (froom MStamp′.mir l6 0) ∷ ‵ (fdies MStamp′.mir l6) ∷ ‵ (froom (tyRef (named 3) mut (pointee (R-AnswerWords .written))) l7 0) ∷ ‵ (fdies (tyRef (named 3) mut (pointee (R-AnswerWords .written))) l7) ∷ ‵ (froom MSettingsWords′.mir l8 0) ∷ ‵ (fdies MSettingsWords′.mir l8) ∷ ‵ (froom MStateWords′.mir l9 0) ∷ ‵ (fdies MStateWords′.mir l9) ∷ ‵ (froom MHalvesWords′.mir l10 0) ∷ ‵ (fdies MHalvesWords′.mir l10) ∷ ‵ (froom MDelaysWords′.mir l11 0) ∷ ‵ (fdies MDelaysWords′.mir l11) ∷ ‵ (froom MTold′.mir l12 0) ∷ ‵ (fdies MTold′.mir l12) ∷ ‵ (froom tyBool l13 0) ∷ ‵ (fdies tyBool l13) ∷ ‵ (froom MServo′.mir l14 0) ∷ ‵ (fdies MServo′.mir l14) ∷ ‵ (froom MAccepted′.mir l15 0) ∷ ‵ (fdies MAccepted′.mir l15) ∷ ‵ (froom tyBool l16 0) ∷ ‵ (fdies tyBool l16) ∷ ‵ (froom tyBool l17 0) ∷ ‵ (fdies tyBool l17) ∷ ‵ (froom MServo′.mir l18 0) ∷ ‵ (fdies MServo′.mir l18) ∷ ‵ (froom (tyInt w8) l19 0) ∷ ‵ (fdies (tyInt w8) l19) ∷ ‵ (froom (tyInt w16) l20 0) ∷ ‵ (fdies (tyInt w16) l20) ∷ ‵ (froom tyBool l21 0) ∷ ‵ (fdies tyBool l21) ∷ ‵ (froom MAnswerWords′.mir l22 0) ∷ ‵ (fdies MAnswerWords′.mir l22) ∷ ‵ (froom MAnswerWords′.mir l23 0) ∷ ‵ (fdies MAnswerWords′.mir l23) ∷ ‵ (froom MHead′.mir l24 0) ∷ ‵ (fdies MHead′.mir l24) ∷ ‵ (froom (tyRef erased mut (pointee (R-i64x128 .written))) l25 0) ∷ ‵ (fdies (tyRef erased mut (pointee (R-i64x128 .written))) l25) ∷ ‵ (froom (tyRef erased mut (pointee (R-i32x128 .written))) l26 0) ∷ ‵ (fdies (tyRef erased mut (pointee (R-i32x128 .written))) l26) ∷ ‵ (froom (tyRef erased mut (pointee (R-u8x128 .written))) l27 0) ∷ ‵ (fdies (tyRef erased mut (pointee (R-u8x128 .written))) l27) ∷ Γ) (frees En (prop (Post v)))
+      freed Γ v s = free1 ! $ free1 ! $ free1 ! $ free1 ! $ free1 ! $ free1 ! $ free1 ! $ free1 ! $ free1 ! $ free1 ! $ free1 ! $ free1 ! $ free1 ! $ free1 ! $ free1 ! $ free1 ! $ free1 ! $ free1 ! $ free1 ! $ free1 ! $ free1 ! $ free1 ! $ free1 ! $ free1 ! $ free1 ! $ free1 ! $ free1 ! $ free1 ! $ free0 ! $ s
 
       abbrev i-8-1 : Part-of-code
       i-8-1 = then-of mir′.s-8
@@ -1039,42 +1039,42 @@ module _ {M : Type 1} (𝓤 : URA M) (H : Heap 𝓤) (A : Atoms 𝓤) (W : Given
       abbrev i-8-4 : Part-of-code
       i-8-4 = rest-of i-8-3
 
-      abbrev i-19-1 : Part-of-code
-      i-19-1 = then-of mir′.s-19
+      abbrev i-23-1 : Part-of-code
+      i-23-1 = then-of mir′.s-23
 
-      abbrev i-19-2 : Part-of-code
-      i-19-2 = rest-of i-19-1
+      abbrev i-23-2 : Part-of-code
+      i-23-2 = rest-of i-23-1
 
-      abbrev i-19-3 : Part-of-code
-      i-19-3 = rest-of i-19-2
+      abbrev i-23-3 : Part-of-code
+      i-23-3 = rest-of i-23-2
 
-      abbrev i-19-4 : Part-of-code
-      i-19-4 = rest-of i-19-3
+      abbrev i-23-4 : Part-of-code
+      i-23-4 = rest-of i-23-3
 
-      abbrev i-19-5 : Part-of-code
-      i-19-5 = rest-of i-19-4
+      abbrev i-23-5 : Part-of-code
+      i-23-5 = rest-of i-23-4
 
-      abbrev i-19-6 : Part-of-code
-      i-19-6 = rest-of i-19-5
+      abbrev i-23-6 : Part-of-code
+      i-23-6 = rest-of i-23-5
 
-      abbrev i-19-7 : Part-of-code
-      i-19-7 = rest-of i-19-6
+      abbrev i-23-7 : Part-of-code
+      i-23-7 = rest-of i-23-6
 
-      from-8-3 : (qq : Kit-Post 𝓤 H) (ee : post 𝓤 H qq returnsᴼ ≡ atReturn 𝓤 H En Post returnsᴼ) (u-3 : Val) (g-4 : Is R-SettingsWords (h1 .settings) (u-3 ∷ [])) (u-7 : Val) (g-8 : Is R-StateWords (h1 .state) (u-7 ∷ [])) (u-11 : Val) (g-12 : Is R-HalvesWords (h1 .halves) (u-11 ∷ [])) (u-15 : Val) (g-16 : Is R-DelaysWords (h1 .delays) (u-15 ∷ [])) (p-18 : STold.Told) (w-17 : Val) (e-19 : p-18 ≡ sentTold (h1 .settings) (h1 .state) (h1 .halves) (h1 .delays) h4 h5 h6) (is-20 : Is R-Told p-18 (w-17 ∷ [])) (held1 : Holds (p-18 .barred)) (p-22 : SAnswerWords.AnswerWords) (w-21 : Val) (e-23 : p-22 ≡ refusing (p-18 .number)) (is-24 : Is R-AnswerWords p-22 (w-21 ∷ [])) → Sq W (‵ (fobs γ7 (R-AnswerWords .coded .code p-22)) ∷ ‵ (fbor κ7 (Body (mem R-AnswerWords) b7 o7 γ7)) ∷ ‵ (flft κ7 q7) ∷ ‵ (fobs γ1 (R-UnitWords .coded .code h1)) ∷ ‵ (fbor κ1 (Body (mem R-UnitWords) b1 o1 γ1)) ∷ ‵ (flft κ1 q1) ∷ ‵ (flft κ3 q3) ∷ ‵ (flft κ2 q2) ∷ ‵ (ftrue) ∷ ‵ (R-Stamp .own h6 (u6 ∷ [])) ∷ ‵ (R-u16 .own h5 (u5 ∷ [])) ∷ ‵ (R-u64 .own h4 (u4 ∷ [])) ∷ ‵ (fobs γ3 (R-Watch .coded .code h3)) ∷ ‵ (fbor κ3 (Body (mem R-Watch) b3 o3 γ3)) ∷ ‵ (fobs γ2 (R-Servo .coded .code h2)) ∷ ‵ (fbor κ2 (Body (mem R-Servo) b2 o2 γ2)) ∷ ‵ (froom (tyRef erased mut (pointee (R-u8x128 .written))) l23 0) ∷ ‵ (fdies (tyRef erased mut (pointee (R-u8x128 .written))) l23) ∷ ‵ (froom (tyRef erased mut (pointee (R-i32x128 .written))) l22 0) ∷ ‵ (fdies (tyRef erased mut (pointee (R-i32x128 .written))) l22) ∷ ‵ (froom (tyRef erased mut (pointee (R-i64x128 .written))) l21 0) ∷ ‵ (fdies (tyRef erased mut (pointee (R-i64x128 .written))) l21) ∷ ‵ (froom MHead′.mir l20 0) ∷ ‵ (fdies MHead′.mir l20) ∷ ‵ (froom MAnswerWords′.mir l19 0) ∷ ‵ (fdies MAnswerWords′.mir l19) ∷ ‵ (froom MAnswerWords′.mir l18 0) ∷ ‵ (fdies MAnswerWords′.mir l18) ∷ ‵ (froom tyBool l17 0) ∷ ‵ (fdies tyBool l17) ∷ ‵ (froom tyBool l16 0) ∷ ‵ (fdies tyBool l16) ∷ ‵ (froom MServo′.mir l15 0) ∷ ‵ (fdies MServo′.mir l15) ∷ ‵ (froom MServo′.mir l14 0) ∷ ‵ (fdies MServo′.mir l14) ∷ ‵ (froom tyBool l13 0) ∷ ‵ (fdies tyBool l13) ∷ ‵ (froom MTold′.mir l12 0) ∷ ‵ (fdies MTold′.mir l12) ∷ ‵ (froom MDelaysWords′.mir l11 0) ∷ ‵ (fdies MDelaysWords′.mir l11) ∷ ‵ (froom MHalvesWords′.mir l10 0) ∷ ‵ (fdies MHalvesWords′.mir l10) ∷ ‵ (froom MStateWords′.mir l9 0) ∷ ‵ (fdies MStateWords′.mir l9) ∷ ‵ (froom MSettingsWords′.mir l8 0) ∷ ‵ (fdies MSettingsWords′.mir l8) ∷ ‵ (froom (tyRef (named 3) mut (pointee (R-AnswerWords .written))) l7 0) ∷ ‵ (fdies (tyRef (named 3) mut (pointee (R-AnswerWords .written))) l7) ∷ ‵ (froom MStamp′.mir l6 0) ∷ ‵ (fdies MStamp′.mir l6) ∷ ‵ (froom (tyInt w16) l5 0) ∷ ‵ (fdies (tyInt w16) l5) ∷ ‵ (froom (tyInt w64) l4 0) ∷ ‵ (fdies (tyInt w64) l4) ∷ ‵ (froom (tyRef (named 2) mut (pointee (R-Watch .written))) l3 0) ∷ ‵ (fdies (tyRef (named 2) mut (pointee (R-Watch .written))) l3) ∷ ‵ (froom (tyRef (named 1) mut (pointee (R-Servo .written))) l2 0) ∷ ‵ (fdies (tyRef (named 1) mut (pointee (R-Servo .written))) l2) ∷ ‵ (froom (tyRef (named 0) mut (pointee (R-UnitWords .written))) l1 0) ∷ ‵ (fdies (tyRef (named 0) mut (pointee (R-UnitWords .written))) l1) ∷ ‵ (froom tyUnit l0 0) ∷ ‵ (fdies tyUnit l0) ∷ []) (runs C Λ En i-8-3 qq)
+      from-8-3 : (qq : Kit-Post 𝓤 H) (ee : post 𝓤 H qq returnsᴼ ≡ atReturn 𝓤 H En Post returnsᴼ) (u-3 : Val) (g-4 : Is R-SettingsWords (h1 .settings) (u-3 ∷ [])) (u-7 : Val) (g-8 : Is R-StateWords (h1 .state) (u-7 ∷ [])) (u-11 : Val) (g-12 : Is R-HalvesWords (h1 .halves) (u-11 ∷ [])) (u-15 : Val) (g-16 : Is R-DelaysWords (h1 .delays) (u-15 ∷ [])) (p-18 : STold.Told) (w-17 : Val) (e-19 : p-18 ≡ sentTold (h1 .settings) (h1 .state) (h1 .halves) (h1 .delays) h4 h5 h6) (is-20 : Is R-Told p-18 (w-17 ∷ [])) (held1 : Holds (p-18 .barred)) (p-22 : SAnswerWords.AnswerWords) (w-21 : Val) (e-23 : p-22 ≡ refusing (p-18 .number)) (is-24 : Is R-AnswerWords p-22 (w-21 ∷ [])) → Sq W (‵ (fobs γ7 (R-AnswerWords .coded .code p-22)) ∷ ‵ (fbor κ7 (Body (mem R-AnswerWords) b7 o7 γ7)) ∷ ‵ (flft κ7 q7) ∷ ‵ (fobs γ1 (R-UnitWords .coded .code h1)) ∷ ‵ (fbor κ1 (Body (mem R-UnitWords) b1 o1 γ1)) ∷ ‵ (flft κ1 q1) ∷ ‵ (flft κ3 q3) ∷ ‵ (flft κ2 q2) ∷ ‵ (ftrue) ∷ ‵ (R-Stamp .own h6 (u6 ∷ [])) ∷ ‵ (R-u16 .own h5 (u5 ∷ [])) ∷ ‵ (R-u64 .own h4 (u4 ∷ [])) ∷ ‵ (fobs γ3 (R-Watch .coded .code h3)) ∷ ‵ (fbor κ3 (Body (mem R-Watch) b3 o3 γ3)) ∷ ‵ (fobs γ2 (R-Servo .coded .code h2)) ∷ ‵ (fbor κ2 (Body (mem R-Servo) b2 o2 γ2)) ∷ ‵ (froom (tyRef erased mut (pointee (R-u8x128 .written))) l27 0) ∷ ‵ (fdies (tyRef erased mut (pointee (R-u8x128 .written))) l27) ∷ ‵ (froom (tyRef erased mut (pointee (R-i32x128 .written))) l26 0) ∷ ‵ (fdies (tyRef erased mut (pointee (R-i32x128 .written))) l26) ∷ ‵ (froom (tyRef erased mut (pointee (R-i64x128 .written))) l25 0) ∷ ‵ (fdies (tyRef erased mut (pointee (R-i64x128 .written))) l25) ∷ ‵ (froom MHead′.mir l24 0) ∷ ‵ (fdies MHead′.mir l24) ∷ ‵ (froom MAnswerWords′.mir l23 0) ∷ ‵ (fdies MAnswerWords′.mir l23) ∷ ‵ (froom MAnswerWords′.mir l22 0) ∷ ‵ (fdies MAnswerWords′.mir l22) ∷ ‵ (froom tyBool l21 0) ∷ ‵ (fdies tyBool l21) ∷ ‵ (froom (tyInt w16) l20 0) ∷ ‵ (fdies (tyInt w16) l20) ∷ ‵ (froom (tyInt w8) l19 0) ∷ ‵ (fdies (tyInt w8) l19) ∷ ‵ (froom MServo′.mir l18 0) ∷ ‵ (fdies MServo′.mir l18) ∷ ‵ (froom tyBool l17 0) ∷ ‵ (fdies tyBool l17) ∷ ‵ (froom tyBool l16 0) ∷ ‵ (fdies tyBool l16) ∷ ‵ (froom MAccepted′.mir l15 0) ∷ ‵ (fdies MAccepted′.mir l15) ∷ ‵ (froom MServo′.mir l14 0) ∷ ‵ (fdies MServo′.mir l14) ∷ ‵ (froom tyBool l13 0) ∷ ‵ (fdies tyBool l13) ∷ ‵ (froom MTold′.mir l12 0) ∷ ‵ (fdies MTold′.mir l12) ∷ ‵ (froom MDelaysWords′.mir l11 0) ∷ ‵ (fdies MDelaysWords′.mir l11) ∷ ‵ (froom MHalvesWords′.mir l10 0) ∷ ‵ (fdies MHalvesWords′.mir l10) ∷ ‵ (froom MStateWords′.mir l9 0) ∷ ‵ (fdies MStateWords′.mir l9) ∷ ‵ (froom MSettingsWords′.mir l8 0) ∷ ‵ (fdies MSettingsWords′.mir l8) ∷ ‵ (froom (tyRef (named 3) mut (pointee (R-AnswerWords .written))) l7 0) ∷ ‵ (fdies (tyRef (named 3) mut (pointee (R-AnswerWords .written))) l7) ∷ ‵ (froom MStamp′.mir l6 0) ∷ ‵ (fdies MStamp′.mir l6) ∷ ‵ (froom (tyInt w16) l5 0) ∷ ‵ (fdies (tyInt w16) l5) ∷ ‵ (froom (tyInt w64) l4 0) ∷ ‵ (fdies (tyInt w64) l4) ∷ ‵ (froom (tyRef (named 2) mut (pointee (R-Watch .written))) l3 0) ∷ ‵ (fdies (tyRef (named 2) mut (pointee (R-Watch .written))) l3) ∷ ‵ (froom (tyRef (named 1) mut (pointee (R-Servo .written))) l2 0) ∷ ‵ (fdies (tyRef (named 1) mut (pointee (R-Servo .written))) l2) ∷ ‵ (froom (tyRef (named 0) mut (pointee (R-UnitWords .written))) l1 0) ∷ ‵ (fdies (tyRef (named 0) mut (pointee (R-UnitWords .written))) l1) ∷ ‵ (froom tyUnit l0 0) ∷ ‵ (fdies tyUnit l0) ∷ []) (runs C Λ En i-8-3 qq)
       from-8-3 qq ee u-3 g-4 u-7 g-8 u-11 g-12 u-15 g-16 p-18 w-17 e-19 is-20 held1 p-22 w-21 e-23 is-24 =
-          assigns ! (of-opd ! (unit-lit !)) (from ! (stop !)) (init ! 62 refl (tt, tt)) $
-          returns-within ! Post ee (look ! 62 refl) $
-          forget ! 62 refl $
-          move ! (62 ∷ 63 ∷ 60 ∷ 61 ∷ 58 ∷ 59 ∷ 56 ∷ 57 ∷ 54 ∷ 55 ∷ 52 ∷ 53 ∷ 50 ∷ 51 ∷ 48 ∷ 49 ∷ 46 ∷ 47 ∷ 44 ∷ 45 ∷ 42 ∷ 43 ∷ 40 ∷ 41 ∷ 38 ∷ 39 ∷ 36 ∷ 37 ∷ 34 ∷ 35 ∷ 32 ∷ 33 ∷ 30 ∷ 31 ∷ 28 ∷ 29 ∷ 26 ∷ 27 ∷ 24 ∷ 25 ∷ 22 ∷ 23 ∷ 20 ∷ 21 ∷ 18 ∷ 19 ∷ 16 ∷ 17 ∷ []) $
+          assigns ! (of-opd ! (unit-lit !)) (from ! (stop !)) (init ! 70 refl (tt, tt)) $
+          returns-within ! Post ee (look ! 70 refl) $
+          forget ! 70 refl $
+          move ! (70 ∷ 71 ∷ 68 ∷ 69 ∷ 66 ∷ 67 ∷ 64 ∷ 65 ∷ 62 ∷ 63 ∷ 60 ∷ 61 ∷ 58 ∷ 59 ∷ 56 ∷ 57 ∷ 54 ∷ 55 ∷ 52 ∷ 53 ∷ 50 ∷ 51 ∷ 48 ∷ 49 ∷ 46 ∷ 47 ∷ 44 ∷ 45 ∷ 42 ∷ 43 ∷ 40 ∷ 41 ∷ 38 ∷ 39 ∷ 36 ∷ 37 ∷ 34 ∷ 35 ∷ 32 ∷ 33 ∷ 30 ∷ 31 ∷ 28 ∷ 29 ∷ 26 ∷ 27 ∷ 24 ∷ 25 ∷ 22 ∷ 23 ∷ 20 ∷ 21 ∷ 18 ∷ 19 ∷ 16 ∷ 17 ∷ []) $
           freed _ _ (
           keep ! (3 ∷ 4 ∷ 5 ∷ 14 ∷ 15 ∷ 7 ∷ 12 ∷ 13 ∷ 6 ∷ 0 ∷ 1 ∷ 2 ∷ 11 ∷ 10 ∷ 9 ∷ 8 ∷ []) $
           by ! (exits-1 u-3 g-4 u-7 g-8 u-11 g-12 u-15 g-16 p-18 w-17 e-19 is-20 held1 p-22 w-21 e-23 is-24))
 
-      from-8-1 : (qq : Kit-Post 𝓤 H) (ee : post 𝓤 H qq returnsᴼ ≡ atReturn 𝓤 H En Post returnsᴼ) (u-3 : Val) (g-4 : Is R-SettingsWords (h1 .settings) (u-3 ∷ [])) (u-7 : Val) (g-8 : Is R-StateWords (h1 .state) (u-7 ∷ [])) (u-11 : Val) (g-12 : Is R-HalvesWords (h1 .halves) (u-11 ∷ [])) (u-15 : Val) (g-16 : Is R-DelaysWords (h1 .delays) (u-15 ∷ [])) (p-18 : STold.Told) (w-17 : Val) (e-19 : p-18 ≡ sentTold (h1 .settings) (h1 .state) (h1 .halves) (h1 .delays) h4 h5 h6) (is-20 : Is R-Told p-18 (w-17 ∷ [])) (held1 : Holds (p-18 .barred)) → Sq W (‵ (fobs γ1 (R-UnitWords .coded .code h1)) ∷ ‵ (fbor κ1 (Body (mem R-UnitWords) b1 o1 γ1)) ∷ ‵ (flft κ1 q1) ∷ ‵ (flft κ7 q7) ∷ ‵ (flft κ3 q3) ∷ ‵ (flft κ2 q2) ∷ ‵ (ftrue) ∷ ‵ (fobs γ7 (R-AnswerWords .coded .code h7)) ∷ ‵ (fbor κ7 (Body (mem R-AnswerWords) b7 o7 γ7)) ∷ ‵ (R-Stamp .own h6 (u6 ∷ [])) ∷ ‵ (R-u16 .own h5 (u5 ∷ [])) ∷ ‵ (R-u64 .own h4 (u4 ∷ [])) ∷ ‵ (fobs γ3 (R-Watch .coded .code h3)) ∷ ‵ (fbor κ3 (Body (mem R-Watch) b3 o3 γ3)) ∷ ‵ (fobs γ2 (R-Servo .coded .code h2)) ∷ ‵ (fbor κ2 (Body (mem R-Servo) b2 o2 γ2)) ∷ ‵ (froom (tyRef erased mut (pointee (R-u8x128 .written))) l23 0) ∷ ‵ (fdies (tyRef erased mut (pointee (R-u8x128 .written))) l23) ∷ ‵ (froom (tyRef erased mut (pointee (R-i32x128 .written))) l22 0) ∷ ‵ (fdies (tyRef erased mut (pointee (R-i32x128 .written))) l22) ∷ ‵ (froom (tyRef erased mut (pointee (R-i64x128 .written))) l21 0) ∷ ‵ (fdies (tyRef erased mut (pointee (R-i64x128 .written))) l21) ∷ ‵ (froom MHead′.mir l20 0) ∷ ‵ (fdies MHead′.mir l20) ∷ ‵ (froom MAnswerWords′.mir l19 0) ∷ ‵ (fdies MAnswerWords′.mir l19) ∷ ‵ (froom MAnswerWords′.mir l18 0) ∷ ‵ (fdies MAnswerWords′.mir l18) ∷ ‵ (froom tyBool l17 0) ∷ ‵ (fdies tyBool l17) ∷ ‵ (froom tyBool l16 0) ∷ ‵ (fdies tyBool l16) ∷ ‵ (froom MServo′.mir l15 0) ∷ ‵ (fdies MServo′.mir l15) ∷ ‵ (froom MServo′.mir l14 0) ∷ ‵ (fdies MServo′.mir l14) ∷ ‵ (froom tyBool l13 0) ∷ ‵ (fdies tyBool l13) ∷ ‵ (fat fullShare MTold′.mir l12 0 (vstruct (ofList ((parts-Told p-18 w-17 is-20) .pu0 ∷ (parts-Told p-18 w-17 is-20) .pu1 ∷ (parts-Told p-18 w-17 is-20) .pu2 ∷ (parts-Told p-18 w-17 is-20) .pu3 ∷ (parts-Told p-18 w-17 is-20) .pu4 ∷ (parts-Told p-18 w-17 is-20) .pu5 ∷ (parts-Told p-18 w-17 is-20) .pu6 ∷ (parts-Told p-18 w-17 is-20) .pu7 ∷ (parts-Told p-18 w-17 is-20) .pu8 ∷ (parts-Told p-18 w-17 is-20) .pu9 ∷ [])))) ∷ ‵ (fdies MTold′.mir l12) ∷ ‵ (froom MDelaysWords′.mir l11 0) ∷ ‵ (fdies MDelaysWords′.mir l11) ∷ ‵ (froom MHalvesWords′.mir l10 0) ∷ ‵ (fdies MHalvesWords′.mir l10) ∷ ‵ (froom MStateWords′.mir l9 0) ∷ ‵ (fdies MStateWords′.mir l9) ∷ ‵ (froom MSettingsWords′.mir l8 0) ∷ ‵ (fdies MSettingsWords′.mir l8) ∷ ‵ (fat fullShare (tyRef (named 3) mut (pointee (R-AnswerWords .written))) l7 0 (vptr b7 o7)) ∷ ‵ (fdies (tyRef (named 3) mut (pointee (R-AnswerWords .written))) l7) ∷ ‵ (froom MStamp′.mir l6 0) ∷ ‵ (fdies MStamp′.mir l6) ∷ ‵ (froom (tyInt w16) l5 0) ∷ ‵ (fdies (tyInt w16) l5) ∷ ‵ (froom (tyInt w64) l4 0) ∷ ‵ (fdies (tyInt w64) l4) ∷ ‵ (froom (tyRef (named 2) mut (pointee (R-Watch .written))) l3 0) ∷ ‵ (fdies (tyRef (named 2) mut (pointee (R-Watch .written))) l3) ∷ ‵ (froom (tyRef (named 1) mut (pointee (R-Servo .written))) l2 0) ∷ ‵ (fdies (tyRef (named 1) mut (pointee (R-Servo .written))) l2) ∷ ‵ (froom (tyRef (named 0) mut (pointee (R-UnitWords .written))) l1 0) ∷ ‵ (fdies (tyRef (named 0) mut (pointee (R-UnitWords .written))) l1) ∷ ‵ (froom tyUnit l0 0) ∷ ‵ (fdies tyUnit l0) ∷ []) (runs C Λ En i-8-1 qq)
+      from-8-1 : (qq : Kit-Post 𝓤 H) (ee : post 𝓤 H qq returnsᴼ ≡ atReturn 𝓤 H En Post returnsᴼ) (u-3 : Val) (g-4 : Is R-SettingsWords (h1 .settings) (u-3 ∷ [])) (u-7 : Val) (g-8 : Is R-StateWords (h1 .state) (u-7 ∷ [])) (u-11 : Val) (g-12 : Is R-HalvesWords (h1 .halves) (u-11 ∷ [])) (u-15 : Val) (g-16 : Is R-DelaysWords (h1 .delays) (u-15 ∷ [])) (p-18 : STold.Told) (w-17 : Val) (e-19 : p-18 ≡ sentTold (h1 .settings) (h1 .state) (h1 .halves) (h1 .delays) h4 h5 h6) (is-20 : Is R-Told p-18 (w-17 ∷ [])) (held1 : Holds (p-18 .barred)) → Sq W (‵ (fobs γ1 (R-UnitWords .coded .code h1)) ∷ ‵ (fbor κ1 (Body (mem R-UnitWords) b1 o1 γ1)) ∷ ‵ (flft κ1 q1) ∷ ‵ (flft κ7 q7) ∷ ‵ (flft κ3 q3) ∷ ‵ (flft κ2 q2) ∷ ‵ (ftrue) ∷ ‵ (fobs γ7 (R-AnswerWords .coded .code h7)) ∷ ‵ (fbor κ7 (Body (mem R-AnswerWords) b7 o7 γ7)) ∷ ‵ (R-Stamp .own h6 (u6 ∷ [])) ∷ ‵ (R-u16 .own h5 (u5 ∷ [])) ∷ ‵ (R-u64 .own h4 (u4 ∷ [])) ∷ ‵ (fobs γ3 (R-Watch .coded .code h3)) ∷ ‵ (fbor κ3 (Body (mem R-Watch) b3 o3 γ3)) ∷ ‵ (fobs γ2 (R-Servo .coded .code h2)) ∷ ‵ (fbor κ2 (Body (mem R-Servo) b2 o2 γ2)) ∷ ‵ (froom (tyRef erased mut (pointee (R-u8x128 .written))) l27 0) ∷ ‵ (fdies (tyRef erased mut (pointee (R-u8x128 .written))) l27) ∷ ‵ (froom (tyRef erased mut (pointee (R-i32x128 .written))) l26 0) ∷ ‵ (fdies (tyRef erased mut (pointee (R-i32x128 .written))) l26) ∷ ‵ (froom (tyRef erased mut (pointee (R-i64x128 .written))) l25 0) ∷ ‵ (fdies (tyRef erased mut (pointee (R-i64x128 .written))) l25) ∷ ‵ (froom MHead′.mir l24 0) ∷ ‵ (fdies MHead′.mir l24) ∷ ‵ (froom MAnswerWords′.mir l23 0) ∷ ‵ (fdies MAnswerWords′.mir l23) ∷ ‵ (froom MAnswerWords′.mir l22 0) ∷ ‵ (fdies MAnswerWords′.mir l22) ∷ ‵ (froom tyBool l21 0) ∷ ‵ (fdies tyBool l21) ∷ ‵ (froom (tyInt w16) l20 0) ∷ ‵ (fdies (tyInt w16) l20) ∷ ‵ (froom (tyInt w8) l19 0) ∷ ‵ (fdies (tyInt w8) l19) ∷ ‵ (froom MServo′.mir l18 0) ∷ ‵ (fdies MServo′.mir l18) ∷ ‵ (froom tyBool l17 0) ∷ ‵ (fdies tyBool l17) ∷ ‵ (froom tyBool l16 0) ∷ ‵ (fdies tyBool l16) ∷ ‵ (froom MAccepted′.mir l15 0) ∷ ‵ (fdies MAccepted′.mir l15) ∷ ‵ (froom MServo′.mir l14 0) ∷ ‵ (fdies MServo′.mir l14) ∷ ‵ (froom tyBool l13 0) ∷ ‵ (fdies tyBool l13) ∷ ‵ (fat fullShare MTold′.mir l12 0 (vstruct (ofList ((parts-Told p-18 w-17 is-20) .pu0 ∷ (parts-Told p-18 w-17 is-20) .pu1 ∷ (parts-Told p-18 w-17 is-20) .pu2 ∷ (parts-Told p-18 w-17 is-20) .pu3 ∷ (parts-Told p-18 w-17 is-20) .pu4 ∷ (parts-Told p-18 w-17 is-20) .pu5 ∷ (parts-Told p-18 w-17 is-20) .pu6 ∷ (parts-Told p-18 w-17 is-20) .pu7 ∷ (parts-Told p-18 w-17 is-20) .pu8 ∷ (parts-Told p-18 w-17 is-20) .pu9 ∷ [])))) ∷ ‵ (fdies MTold′.mir l12) ∷ ‵ (froom MDelaysWords′.mir l11 0) ∷ ‵ (fdies MDelaysWords′.mir l11) ∷ ‵ (froom MHalvesWords′.mir l10 0) ∷ ‵ (fdies MHalvesWords′.mir l10) ∷ ‵ (froom MStateWords′.mir l9 0) ∷ ‵ (fdies MStateWords′.mir l9) ∷ ‵ (froom MSettingsWords′.mir l8 0) ∷ ‵ (fdies MSettingsWords′.mir l8) ∷ ‵ (fat fullShare (tyRef (named 3) mut (pointee (R-AnswerWords .written))) l7 0 (vptr b7 o7)) ∷ ‵ (fdies (tyRef (named 3) mut (pointee (R-AnswerWords .written))) l7) ∷ ‵ (froom MStamp′.mir l6 0) ∷ ‵ (fdies MStamp′.mir l6) ∷ ‵ (froom (tyInt w16) l5 0) ∷ ‵ (fdies (tyInt w16) l5) ∷ ‵ (froom (tyInt w64) l4 0) ∷ ‵ (fdies (tyInt w64) l4) ∷ ‵ (froom (tyRef (named 2) mut (pointee (R-Watch .written))) l3 0) ∷ ‵ (fdies (tyRef (named 2) mut (pointee (R-Watch .written))) l3) ∷ ‵ (froom (tyRef (named 1) mut (pointee (R-Servo .written))) l2 0) ∷ ‵ (fdies (tyRef (named 1) mut (pointee (R-Servo .written))) l2) ∷ ‵ (froom (tyRef (named 0) mut (pointee (R-UnitWords .written))) l1 0) ∷ ‵ (fdies (tyRef (named 0) mut (pointee (R-UnitWords .written))) l1) ∷ ‵ (froom tyUnit l0 0) ∷ ‵ (fdies tyUnit l0) ∷ []) (runs C Λ En i-8-1 qq)
       from-8-1 qq ee u-3 g-4 u-7 g-8 u-11 g-12 u-15 g-16 p-18 w-17 e-19 is-20 held1 =
-          rewrite ! 38 (λ (u : Val). ‵ (fat fullShare MTold′.mir l12 0 u)) (sym (parts-Told p-18 w-17 is-20 .whole-is)) refl $
+          rewrite ! 46 (λ (u : Val). ‵ (fat fullShare MTold′.mir l12 0 u)) (sym (parts-Told p-18 w-17 is-20 .whole-is)) refl $
           use0 W (raw (C-untold 𝓤 H A at-mem run .pre (to-untold p-18 w-17))) (goes-untold p-18 w-17 is-20) $
-          calls-at ! fm (C-untold 𝓤 H A at-mem run) known-untold (to-untold p-18 w-17) (and-then ! (load ! (from ! (stop !)) (look ! 39 refl)) (no-more !)) (λ w-21.
+          calls-at ! fm (C-untold 𝓤 H A at-mem run) known-untold (to-untold p-18 w-17) (and-then ! (load ! (from ! (stop !)) (look ! 47 refl)) (no-more !)) (λ w-21.
           use1 W (later (some (λ (p-22 : SAnswerWords.AnswerWords). (‵ ftrue ⊛ ‵ (R-AnswerWords .own p-22 (w-21 ∷ []))) ⊛ raw (ensured 𝓤 H A f-untold.ended (f-untold.clauses 𝓤 H A at-mem run) tt (p-18, tt) tt p-22)))) (id⊢ 𝓤 _) $ await ! tt $
           pick ! (λ p-22.
           split ! $
@@ -1092,29 +1092,29 @@ module _ {M : Type 1} (𝓤 : URA M) (H : Heap 𝓤) (A : Atoms 𝓤) (W : Given
           peeks ! R-AnswerWords (Is R-AnswerWords) (shows 𝓤 H A R-AnswerWords) h7 vs-25 (λ g-26.
           rewrite ! 0 (λ (us : List Val). ‵ (R-AnswerWords .own h7 us)) (lone-AnswerWords h7 vs-25 g-26) refl $
           rewrite ! 1 (λ (us : List Val). ‵ (cellAt fullShare (R-AnswerWords .mir) us b7 o7)) (lone-AnswerWords h7 vs-25 g-26) refl $
-          assigns ! (of-opd ! (load ! (from ! (stop !)) (look ! 28 refl))) (from ! (hop ! (look ! 50 refl) (stop !))) (store-raw ! 1 refl (lawful-AnswerWords 𝓤 H A W .typed p-22 _ is-24 .0)) $
+          assigns ! (of-opd ! (load ! (from ! (stop !)) (look ! 28 refl))) (from ! (hop ! (look ! 58 refl) (stop !))) (store-raw ! 1 refl (lawful-AnswerWords 𝓤 H A W .typed p-22 _ is-24 .0)) $
           drop ! $
           owned ! R-AnswerWords (Is R-AnswerWords) (makes-AnswerWords 𝓤 H A W) p-22 _ is-24 $
           move ! (1 ∷ 0 ∷ 2 ∷ 3 ∷ 4 ∷ []) $
           closes ! tt R-AnswerWords p-22 (w-21 ∷ []) b7 o7 $
-          forget ! 48 refl $ forget ! 38 refl $ forget ! 26 refl $
+          forget ! 56 refl $ forget ! 46 refl $ forget ! 26 refl $
           from-8-3 qq ee u-3 g-4 u-7 g-8 u-11 g-12 u-15 g-16 p-18 w-17 e-19 is-20 held1 p-22 w-21 e-23 is-24))))))
 
-      from-19-6 : (qq : Kit-Post 𝓤 H) (ee : post 𝓤 H qq returnsᴼ ≡ atReturn 𝓤 H En Post returnsᴼ) (u-3 : Val) (g-4 : Is R-SettingsWords (h1 .settings) (u-3 ∷ [])) (u-7 : Val) (g-8 : Is R-StateWords (h1 .state) (u-7 ∷ [])) (u-11 : Val) (g-12 : Is R-HalvesWords (h1 .halves) (u-11 ∷ [])) (u-15 : Val) (g-16 : Is R-DelaysWords (h1 .delays) (u-15 ∷ [])) (p-18 : STold.Told) (w-17 : Val) (e-19 : p-18 ≡ sentTold (h1 .settings) (h1 .state) (h1 .halves) (h1 .delays) h4 h5 h6) (is-20 : Is R-Told p-18 (w-17 ∷ [])) (left1 : Holds (not (p-18 .barred))) (u-35 : Val) (g-36 : Is R-Servo h2 (u-35 ∷ [])) (p-38 : SServo.Servo) (w-37 : Val) (e-39 : p-38 ≡ servoAfter (h1 .settings) h2 (p-18 .found) (p-18 .steers) (p-18 .wipes)) (is-40 : Is R-Servo p-38 (w-37 ∷ [])) (p-44 : SAnswerWords.AnswerWords) (w-43 : Val) (e-45 : p-44 ≡ outputSaid (p-18 .code) (p-18 .sequence) (p-18 .found) (p-18 .steers) p-38) (is-46 : Is R-AnswerWords p-44 (w-43 ∷ [])) (held2 : Holds (p-18 .wipes)) (zs-62 : (List ℤ)) (zs-63 : (List ℤ)) (zs-64 : (List ℕ)) (p-58 : SHead.Head) (w-57 : Val) (e-60 : (p-58 ≡ freshWatch .head) × (zs-62 ≡ freshWatch .references) × (zs-63 ≡ freshWatch .ys) × (zs-64 ≡ freshWatch .marks)) (is-61 : Is R-Head p-58 (w-57 ∷ [])) → Sq W (‵ (fobs γ3 (R-Watch .coded .code (with-Watch-0 (all-Watch (h3 .head) zs-62 zs-63 zs-64) p-58))) ∷ ‵ (fbor κ3 (Body (mem R-Watch) b3 o3 γ3)) ∷ ‵ (flft κ3 q3) ∷ ‵ (fobs γ7 (R-AnswerWords .coded .code p-44)) ∷ ‵ (fbor κ7 (Body (mem R-AnswerWords) b7 o7 γ7)) ∷ ‵ (flft κ7 q7) ∷ ‵ (fobs γ2 (R-Servo .coded .code p-38)) ∷ ‵ (fbor κ2 (Body (mem R-Servo) b2 o2 γ2)) ∷ ‵ (flft κ2 q2) ∷ ‵ (fobs γ1 (R-UnitWords .coded .code (with-UnitWords-3 (with-UnitWords-2 (with-UnitWords-1 h1 (p-18 .state)) (p-18 .halves)) (p-18 .delays)))) ∷ ‵ (fbor κ1 (Body (mem R-UnitWords) b1 o1 γ1)) ∷ ‵ (flft κ1 q1) ∷ ‵ (ftrue) ∷ ‵ (R-Stamp .own h6 (u6 ∷ [])) ∷ ‵ (R-u16 .own h5 (u5 ∷ [])) ∷ ‵ (R-u64 .own h4 (u4 ∷ [])) ∷ ‵ (froom (tyRef erased mut (pointee (R-u8x128 .written))) l23 0) ∷ ‵ (fdies (tyRef erased mut (pointee (R-u8x128 .written))) l23) ∷ ‵ (froom (tyRef erased mut (pointee (R-i32x128 .written))) l22 0) ∷ ‵ (fdies (tyRef erased mut (pointee (R-i32x128 .written))) l22) ∷ ‵ (froom (tyRef erased mut (pointee (R-i64x128 .written))) l21 0) ∷ ‵ (fdies (tyRef erased mut (pointee (R-i64x128 .written))) l21) ∷ ‵ (froom MHead′.mir l20 0) ∷ ‵ (fdies MHead′.mir l20) ∷ ‵ (froom MAnswerWords′.mir l19 0) ∷ ‵ (fdies MAnswerWords′.mir l19) ∷ ‵ (froom MAnswerWords′.mir l18 0) ∷ ‵ (fdies MAnswerWords′.mir l18) ∷ ‵ (froom tyBool l17 0) ∷ ‵ (fdies tyBool l17) ∷ ‵ (froom tyBool l16 0) ∷ ‵ (fdies tyBool l16) ∷ ‵ (froom MServo′.mir l15 0) ∷ ‵ (fdies MServo′.mir l15) ∷ ‵ (froom MServo′.mir l14 0) ∷ ‵ (fdies MServo′.mir l14) ∷ ‵ (froom tyBool l13 0) ∷ ‵ (fdies tyBool l13) ∷ ‵ (froom MTold′.mir l12 0) ∷ ‵ (fdies MTold′.mir l12) ∷ ‵ (froom MDelaysWords′.mir l11 0) ∷ ‵ (fdies MDelaysWords′.mir l11) ∷ ‵ (froom MHalvesWords′.mir l10 0) ∷ ‵ (fdies MHalvesWords′.mir l10) ∷ ‵ (froom MStateWords′.mir l9 0) ∷ ‵ (fdies MStateWords′.mir l9) ∷ ‵ (froom MSettingsWords′.mir l8 0) ∷ ‵ (fdies MSettingsWords′.mir l8) ∷ ‵ (froom (tyRef (named 3) mut (pointee (R-AnswerWords .written))) l7 0) ∷ ‵ (fdies (tyRef (named 3) mut (pointee (R-AnswerWords .written))) l7) ∷ ‵ (froom MStamp′.mir l6 0) ∷ ‵ (fdies MStamp′.mir l6) ∷ ‵ (froom (tyInt w16) l5 0) ∷ ‵ (fdies (tyInt w16) l5) ∷ ‵ (froom (tyInt w64) l4 0) ∷ ‵ (fdies (tyInt w64) l4) ∷ ‵ (froom (tyRef (named 2) mut (pointee (R-Watch .written))) l3 0) ∷ ‵ (fdies (tyRef (named 2) mut (pointee (R-Watch .written))) l3) ∷ ‵ (froom (tyRef (named 1) mut (pointee (R-Servo .written))) l2 0) ∷ ‵ (fdies (tyRef (named 1) mut (pointee (R-Servo .written))) l2) ∷ ‵ (froom (tyRef (named 0) mut (pointee (R-UnitWords .written))) l1 0) ∷ ‵ (fdies (tyRef (named 0) mut (pointee (R-UnitWords .written))) l1) ∷ ‵ (froom tyUnit l0 0) ∷ ‵ (fdies tyUnit l0) ∷ []) (runs C Λ En i-19-6 qq)
-      from-19-6 qq ee u-3 g-4 u-7 g-8 u-11 g-12 u-15 g-16 p-18 w-17 e-19 is-20 left1 u-35 g-36 p-38 w-37 e-39 is-40 p-44 w-43 e-45 is-46 held2 zs-62 zs-63 zs-64 p-58 w-57 e-60 is-61 =
-          assigns ! (of-opd ! (unit-lit !)) (from ! (stop !)) (init ! 62 refl (tt, tt)) $
-          returns-within ! Post ee (look ! 62 refl) $
-          forget ! 62 refl $
-          move ! (62 ∷ 63 ∷ 60 ∷ 61 ∷ 58 ∷ 59 ∷ 56 ∷ 57 ∷ 54 ∷ 55 ∷ 52 ∷ 53 ∷ 50 ∷ 51 ∷ 48 ∷ 49 ∷ 46 ∷ 47 ∷ 44 ∷ 45 ∷ 42 ∷ 43 ∷ 40 ∷ 41 ∷ 38 ∷ 39 ∷ 36 ∷ 37 ∷ 34 ∷ 35 ∷ 32 ∷ 33 ∷ 30 ∷ 31 ∷ 28 ∷ 29 ∷ 26 ∷ 27 ∷ 24 ∷ 25 ∷ 22 ∷ 23 ∷ 20 ∷ 21 ∷ 18 ∷ 19 ∷ 16 ∷ 17 ∷ []) $
+      from-23-6 : (qq : Kit-Post 𝓤 H) (ee : post 𝓤 H qq returnsᴼ ≡ atReturn 𝓤 H En Post returnsᴼ) (u-3 : Val) (g-4 : Is R-SettingsWords (h1 .settings) (u-3 ∷ [])) (u-7 : Val) (g-8 : Is R-StateWords (h1 .state) (u-7 ∷ [])) (u-11 : Val) (g-12 : Is R-HalvesWords (h1 .halves) (u-11 ∷ [])) (u-15 : Val) (g-16 : Is R-DelaysWords (h1 .delays) (u-15 ∷ [])) (p-18 : STold.Told) (w-17 : Val) (e-19 : p-18 ≡ sentTold (h1 .settings) (h1 .state) (h1 .halves) (h1 .delays) h4 h5 h6) (is-20 : Is R-Told p-18 (w-17 ∷ [])) (left1 : Holds (not (p-18 .barred))) (u-35 : Val) (g-36 : Is R-Servo h2 (u-35 ∷ [])) (p-38 : SServo.Servo) (w-37 : Val) (e-39 : p-38 ≡ servoAfter (h1 .settings) h2 (p-18 .found) (p-18 .steers) (p-18 .wipes)) (is-40 : Is R-Servo p-38 (w-37 ∷ [])) (p-44 : SAnswerWords.AnswerWords) (w-43 : Val) (e-45 : p-44 ≡ outputSaid (p-18 .code) (p-18 .sequence) (p-18 .found) (p-18 .steers) p-38) (is-46 : Is R-AnswerWords p-44 (w-43 ∷ [])) (held2 : Holds (p-18 .wipes)) (zs-62 : (List ℤ)) (zs-63 : (List ℤ)) (zs-64 : (List ℕ)) (p-58 : SHead.Head) (w-57 : Val) (e-60 : (p-58 ≡ freshWatch .head) × (zs-62 ≡ freshWatch .references) × (zs-63 ≡ freshWatch .ys) × (zs-64 ≡ freshWatch .marks)) (is-61 : Is R-Head p-58 (w-57 ∷ [])) → Sq W (‵ (fobs γ3 (R-Watch .coded .code (with-Watch-0 (all-Watch (h3 .head) zs-62 zs-63 zs-64) p-58))) ∷ ‵ (fbor κ3 (Body (mem R-Watch) b3 o3 γ3)) ∷ ‵ (flft κ3 q3) ∷ ‵ (fobs γ7 (R-AnswerWords .coded .code p-44)) ∷ ‵ (fbor κ7 (Body (mem R-AnswerWords) b7 o7 γ7)) ∷ ‵ (flft κ7 q7) ∷ ‵ (fobs γ2 (R-Servo .coded .code p-38)) ∷ ‵ (fbor κ2 (Body (mem R-Servo) b2 o2 γ2)) ∷ ‵ (flft κ2 q2) ∷ ‵ (fobs γ1 (R-UnitWords .coded .code (with-UnitWords-3 (with-UnitWords-2 (with-UnitWords-1 h1 (p-18 .state)) (p-18 .halves)) (p-18 .delays)))) ∷ ‵ (fbor κ1 (Body (mem R-UnitWords) b1 o1 γ1)) ∷ ‵ (flft κ1 q1) ∷ ‵ (ftrue) ∷ ‵ (R-Stamp .own h6 (u6 ∷ [])) ∷ ‵ (R-u16 .own h5 (u5 ∷ [])) ∷ ‵ (R-u64 .own h4 (u4 ∷ [])) ∷ ‵ (froom (tyRef erased mut (pointee (R-u8x128 .written))) l27 0) ∷ ‵ (fdies (tyRef erased mut (pointee (R-u8x128 .written))) l27) ∷ ‵ (froom (tyRef erased mut (pointee (R-i32x128 .written))) l26 0) ∷ ‵ (fdies (tyRef erased mut (pointee (R-i32x128 .written))) l26) ∷ ‵ (froom (tyRef erased mut (pointee (R-i64x128 .written))) l25 0) ∷ ‵ (fdies (tyRef erased mut (pointee (R-i64x128 .written))) l25) ∷ ‵ (froom MHead′.mir l24 0) ∷ ‵ (fdies MHead′.mir l24) ∷ ‵ (froom MAnswerWords′.mir l23 0) ∷ ‵ (fdies MAnswerWords′.mir l23) ∷ ‵ (froom MAnswerWords′.mir l22 0) ∷ ‵ (fdies MAnswerWords′.mir l22) ∷ ‵ (froom tyBool l21 0) ∷ ‵ (fdies tyBool l21) ∷ ‵ (froom (tyInt w16) l20 0) ∷ ‵ (fdies (tyInt w16) l20) ∷ ‵ (froom (tyInt w8) l19 0) ∷ ‵ (fdies (tyInt w8) l19) ∷ ‵ (froom MServo′.mir l18 0) ∷ ‵ (fdies MServo′.mir l18) ∷ ‵ (froom tyBool l17 0) ∷ ‵ (fdies tyBool l17) ∷ ‵ (froom tyBool l16 0) ∷ ‵ (fdies tyBool l16) ∷ ‵ (froom MAccepted′.mir l15 0) ∷ ‵ (fdies MAccepted′.mir l15) ∷ ‵ (froom MServo′.mir l14 0) ∷ ‵ (fdies MServo′.mir l14) ∷ ‵ (froom tyBool l13 0) ∷ ‵ (fdies tyBool l13) ∷ ‵ (froom MTold′.mir l12 0) ∷ ‵ (fdies MTold′.mir l12) ∷ ‵ (froom MDelaysWords′.mir l11 0) ∷ ‵ (fdies MDelaysWords′.mir l11) ∷ ‵ (froom MHalvesWords′.mir l10 0) ∷ ‵ (fdies MHalvesWords′.mir l10) ∷ ‵ (froom MStateWords′.mir l9 0) ∷ ‵ (fdies MStateWords′.mir l9) ∷ ‵ (froom MSettingsWords′.mir l8 0) ∷ ‵ (fdies MSettingsWords′.mir l8) ∷ ‵ (froom (tyRef (named 3) mut (pointee (R-AnswerWords .written))) l7 0) ∷ ‵ (fdies (tyRef (named 3) mut (pointee (R-AnswerWords .written))) l7) ∷ ‵ (froom MStamp′.mir l6 0) ∷ ‵ (fdies MStamp′.mir l6) ∷ ‵ (froom (tyInt w16) l5 0) ∷ ‵ (fdies (tyInt w16) l5) ∷ ‵ (froom (tyInt w64) l4 0) ∷ ‵ (fdies (tyInt w64) l4) ∷ ‵ (froom (tyRef (named 2) mut (pointee (R-Watch .written))) l3 0) ∷ ‵ (fdies (tyRef (named 2) mut (pointee (R-Watch .written))) l3) ∷ ‵ (froom (tyRef (named 1) mut (pointee (R-Servo .written))) l2 0) ∷ ‵ (fdies (tyRef (named 1) mut (pointee (R-Servo .written))) l2) ∷ ‵ (froom (tyRef (named 0) mut (pointee (R-UnitWords .written))) l1 0) ∷ ‵ (fdies (tyRef (named 0) mut (pointee (R-UnitWords .written))) l1) ∷ ‵ (froom tyUnit l0 0) ∷ ‵ (fdies tyUnit l0) ∷ []) (runs C Λ En i-23-6 qq)
+      from-23-6 qq ee u-3 g-4 u-7 g-8 u-11 g-12 u-15 g-16 p-18 w-17 e-19 is-20 left1 u-35 g-36 p-38 w-37 e-39 is-40 p-44 w-43 e-45 is-46 held2 zs-62 zs-63 zs-64 p-58 w-57 e-60 is-61 =
+          assigns ! (of-opd ! (unit-lit !)) (from ! (stop !)) (init ! 70 refl (tt, tt)) $
+          returns-within ! Post ee (look ! 70 refl) $
+          forget ! 70 refl $
+          move ! (70 ∷ 71 ∷ 68 ∷ 69 ∷ 66 ∷ 67 ∷ 64 ∷ 65 ∷ 62 ∷ 63 ∷ 60 ∷ 61 ∷ 58 ∷ 59 ∷ 56 ∷ 57 ∷ 54 ∷ 55 ∷ 52 ∷ 53 ∷ 50 ∷ 51 ∷ 48 ∷ 49 ∷ 46 ∷ 47 ∷ 44 ∷ 45 ∷ 42 ∷ 43 ∷ 40 ∷ 41 ∷ 38 ∷ 39 ∷ 36 ∷ 37 ∷ 34 ∷ 35 ∷ 32 ∷ 33 ∷ 30 ∷ 31 ∷ 28 ∷ 29 ∷ 26 ∷ 27 ∷ 24 ∷ 25 ∷ 22 ∷ 23 ∷ 20 ∷ 21 ∷ 18 ∷ 19 ∷ 16 ∷ 17 ∷ []) $
           freed _ _ (
           keep ! (9 ∷ 10 ∷ 11 ∷ 6 ∷ 7 ∷ 8 ∷ 0 ∷ 1 ∷ 2 ∷ 3 ∷ 4 ∷ 5 ∷ 15 ∷ 14 ∷ 13 ∷ 12 ∷ []) $
           by ! (exits-2 u-3 g-4 u-7 g-8 u-11 g-12 u-15 g-16 p-18 w-17 e-19 is-20 left1 u-35 g-36 p-38 w-37 e-39 is-40 p-44 w-43 e-45 is-46 held2 zs-62 zs-63 zs-64 p-58 w-57 e-60 is-61))
 
-      from-19-1 : (qq : Kit-Post 𝓤 H) (ee : post 𝓤 H qq returnsᴼ ≡ atReturn 𝓤 H En Post returnsᴼ) (u-3 : Val) (g-4 : Is R-SettingsWords (h1 .settings) (u-3 ∷ [])) (u-7 : Val) (g-8 : Is R-StateWords (h1 .state) (u-7 ∷ [])) (u-11 : Val) (g-12 : Is R-HalvesWords (h1 .halves) (u-11 ∷ [])) (u-15 : Val) (g-16 : Is R-DelaysWords (h1 .delays) (u-15 ∷ [])) (p-18 : STold.Told) (w-17 : Val) (e-19 : p-18 ≡ sentTold (h1 .settings) (h1 .state) (h1 .halves) (h1 .delays) h4 h5 h6) (is-20 : Is R-Told p-18 (w-17 ∷ [])) (left1 : Holds (not (p-18 .barred))) (u-35 : Val) (g-36 : Is R-Servo h2 (u-35 ∷ [])) (p-38 : SServo.Servo) (w-37 : Val) (e-39 : p-38 ≡ servoAfter (h1 .settings) h2 (p-18 .found) (p-18 .steers) (p-18 .wipes)) (is-40 : Is R-Servo p-38 (w-37 ∷ [])) (p-44 : SAnswerWords.AnswerWords) (w-43 : Val) (e-45 : p-44 ≡ outputSaid (p-18 .code) (p-18 .sequence) (p-18 .found) (p-18 .steers) p-38) (is-46 : Is R-AnswerWords p-44 (w-43 ∷ [])) (held2 : Holds (p-18 .wipes)) → Sq W (‵ (fobs γ7 (R-AnswerWords .coded .code p-44)) ∷ ‵ (fbor κ7 (Body (mem R-AnswerWords) b7 o7 γ7)) ∷ ‵ (flft κ7 q7) ∷ ‵ (fobs γ2 (R-Servo .coded .code p-38)) ∷ ‵ (fbor κ2 (Body (mem R-Servo) b2 o2 γ2)) ∷ ‵ (flft κ2 q2) ∷ ‵ (fobs γ1 (R-UnitWords .coded .code (with-UnitWords-3 (with-UnitWords-2 (with-UnitWords-1 h1 (p-18 .state)) (p-18 .halves)) (p-18 .delays)))) ∷ ‵ (fbor κ1 (Body (mem R-UnitWords) b1 o1 γ1)) ∷ ‵ (flft κ1 q1) ∷ ‵ (flft κ3 q3) ∷ ‵ (ftrue) ∷ ‵ (R-Stamp .own h6 (u6 ∷ [])) ∷ ‵ (R-u16 .own h5 (u5 ∷ [])) ∷ ‵ (R-u64 .own h4 (u4 ∷ [])) ∷ ‵ (fobs γ3 (R-Watch .coded .code h3)) ∷ ‵ (fbor κ3 (Body (mem R-Watch) b3 o3 γ3)) ∷ ‵ (froom (tyRef erased mut (pointee (R-u8x128 .written))) l23 0) ∷ ‵ (fdies (tyRef erased mut (pointee (R-u8x128 .written))) l23) ∷ ‵ (froom (tyRef erased mut (pointee (R-i32x128 .written))) l22 0) ∷ ‵ (fdies (tyRef erased mut (pointee (R-i32x128 .written))) l22) ∷ ‵ (froom (tyRef erased mut (pointee (R-i64x128 .written))) l21 0) ∷ ‵ (fdies (tyRef erased mut (pointee (R-i64x128 .written))) l21) ∷ ‵ (froom MHead′.mir l20 0) ∷ ‵ (fdies MHead′.mir l20) ∷ ‵ (froom MAnswerWords′.mir l19 0) ∷ ‵ (fdies MAnswerWords′.mir l19) ∷ ‵ (froom MAnswerWords′.mir l18 0) ∷ ‵ (fdies MAnswerWords′.mir l18) ∷ ‵ (froom tyBool l17 0) ∷ ‵ (fdies tyBool l17) ∷ ‵ (froom tyBool l16 0) ∷ ‵ (fdies tyBool l16) ∷ ‵ (froom MServo′.mir l15 0) ∷ ‵ (fdies MServo′.mir l15) ∷ ‵ (froom MServo′.mir l14 0) ∷ ‵ (fdies MServo′.mir l14) ∷ ‵ (froom tyBool l13 0) ∷ ‵ (fdies tyBool l13) ∷ ‵ (froom MTold′.mir l12 0) ∷ ‵ (fdies MTold′.mir l12) ∷ ‵ (froom MDelaysWords′.mir l11 0) ∷ ‵ (fdies MDelaysWords′.mir l11) ∷ ‵ (froom MHalvesWords′.mir l10 0) ∷ ‵ (fdies MHalvesWords′.mir l10) ∷ ‵ (froom MStateWords′.mir l9 0) ∷ ‵ (fdies MStateWords′.mir l9) ∷ ‵ (froom MSettingsWords′.mir l8 0) ∷ ‵ (fdies MSettingsWords′.mir l8) ∷ ‵ (froom (tyRef (named 3) mut (pointee (R-AnswerWords .written))) l7 0) ∷ ‵ (fdies (tyRef (named 3) mut (pointee (R-AnswerWords .written))) l7) ∷ ‵ (froom MStamp′.mir l6 0) ∷ ‵ (fdies MStamp′.mir l6) ∷ ‵ (froom (tyInt w16) l5 0) ∷ ‵ (fdies (tyInt w16) l5) ∷ ‵ (froom (tyInt w64) l4 0) ∷ ‵ (fdies (tyInt w64) l4) ∷ ‵ (fat fullShare (tyRef (named 2) mut (pointee (R-Watch .written))) l3 0 (vptr b3 o3)) ∷ ‵ (fdies (tyRef (named 2) mut (pointee (R-Watch .written))) l3) ∷ ‵ (froom (tyRef (named 1) mut (pointee (R-Servo .written))) l2 0) ∷ ‵ (fdies (tyRef (named 1) mut (pointee (R-Servo .written))) l2) ∷ ‵ (froom (tyRef (named 0) mut (pointee (R-UnitWords .written))) l1 0) ∷ ‵ (fdies (tyRef (named 0) mut (pointee (R-UnitWords .written))) l1) ∷ ‵ (froom tyUnit l0 0) ∷ ‵ (fdies tyUnit l0) ∷ []) (runs C Λ En i-19-1 qq)
-      from-19-1 qq ee u-3 g-4 u-7 g-8 u-11 g-12 u-15 g-16 p-18 w-17 e-19 is-20 left1 u-35 g-36 p-38 w-37 e-39 is-40 p-44 w-43 e-45 is-46 held2 =
-          assigns ! (addr ! (from ! (hop ! (look ! 56 refl) (fld ! {τ = (tyArray (tyInt w64) 128)} {d = 16} refl (stop !))))) (from ! (stop !)) (init ! 20 refl (tt, tt)) $
-          assigns ! (addr ! (from ! (hop ! (look ! 56 refl) (fld ! {τ = (tyArray (tyInt w32) 128)} {d = 1040} refl (stop !))))) (from ! (stop !)) (init ! 18 refl (tt, tt)) $
-          assigns ! (addr ! (from ! (hop ! (look ! 56 refl) (fld ! {τ = (tyArray (tyInt w8) 128)} {d = 1552} refl (stop !))))) (from ! (stop !)) (init ! 16 refl (tt, tt)) $
+      from-23-1 : (qq : Kit-Post 𝓤 H) (ee : post 𝓤 H qq returnsᴼ ≡ atReturn 𝓤 H En Post returnsᴼ) (u-3 : Val) (g-4 : Is R-SettingsWords (h1 .settings) (u-3 ∷ [])) (u-7 : Val) (g-8 : Is R-StateWords (h1 .state) (u-7 ∷ [])) (u-11 : Val) (g-12 : Is R-HalvesWords (h1 .halves) (u-11 ∷ [])) (u-15 : Val) (g-16 : Is R-DelaysWords (h1 .delays) (u-15 ∷ [])) (p-18 : STold.Told) (w-17 : Val) (e-19 : p-18 ≡ sentTold (h1 .settings) (h1 .state) (h1 .halves) (h1 .delays) h4 h5 h6) (is-20 : Is R-Told p-18 (w-17 ∷ [])) (left1 : Holds (not (p-18 .barred))) (u-35 : Val) (g-36 : Is R-Servo h2 (u-35 ∷ [])) (p-38 : SServo.Servo) (w-37 : Val) (e-39 : p-38 ≡ servoAfter (h1 .settings) h2 (p-18 .found) (p-18 .steers) (p-18 .wipes)) (is-40 : Is R-Servo p-38 (w-37 ∷ [])) (p-44 : SAnswerWords.AnswerWords) (w-43 : Val) (e-45 : p-44 ≡ outputSaid (p-18 .code) (p-18 .sequence) (p-18 .found) (p-18 .steers) p-38) (is-46 : Is R-AnswerWords p-44 (w-43 ∷ [])) (held2 : Holds (p-18 .wipes)) → Sq W (‵ (fobs γ7 (R-AnswerWords .coded .code p-44)) ∷ ‵ (fbor κ7 (Body (mem R-AnswerWords) b7 o7 γ7)) ∷ ‵ (flft κ7 q7) ∷ ‵ (fobs γ2 (R-Servo .coded .code p-38)) ∷ ‵ (fbor κ2 (Body (mem R-Servo) b2 o2 γ2)) ∷ ‵ (flft κ2 q2) ∷ ‵ (fobs γ1 (R-UnitWords .coded .code (with-UnitWords-3 (with-UnitWords-2 (with-UnitWords-1 h1 (p-18 .state)) (p-18 .halves)) (p-18 .delays)))) ∷ ‵ (fbor κ1 (Body (mem R-UnitWords) b1 o1 γ1)) ∷ ‵ (flft κ1 q1) ∷ ‵ (flft κ3 q3) ∷ ‵ (ftrue) ∷ ‵ (R-Stamp .own h6 (u6 ∷ [])) ∷ ‵ (R-u16 .own h5 (u5 ∷ [])) ∷ ‵ (R-u64 .own h4 (u4 ∷ [])) ∷ ‵ (fobs γ3 (R-Watch .coded .code h3)) ∷ ‵ (fbor κ3 (Body (mem R-Watch) b3 o3 γ3)) ∷ ‵ (froom (tyRef erased mut (pointee (R-u8x128 .written))) l27 0) ∷ ‵ (fdies (tyRef erased mut (pointee (R-u8x128 .written))) l27) ∷ ‵ (froom (tyRef erased mut (pointee (R-i32x128 .written))) l26 0) ∷ ‵ (fdies (tyRef erased mut (pointee (R-i32x128 .written))) l26) ∷ ‵ (froom (tyRef erased mut (pointee (R-i64x128 .written))) l25 0) ∷ ‵ (fdies (tyRef erased mut (pointee (R-i64x128 .written))) l25) ∷ ‵ (froom MHead′.mir l24 0) ∷ ‵ (fdies MHead′.mir l24) ∷ ‵ (froom MAnswerWords′.mir l23 0) ∷ ‵ (fdies MAnswerWords′.mir l23) ∷ ‵ (froom MAnswerWords′.mir l22 0) ∷ ‵ (fdies MAnswerWords′.mir l22) ∷ ‵ (froom tyBool l21 0) ∷ ‵ (fdies tyBool l21) ∷ ‵ (froom (tyInt w16) l20 0) ∷ ‵ (fdies (tyInt w16) l20) ∷ ‵ (froom (tyInt w8) l19 0) ∷ ‵ (fdies (tyInt w8) l19) ∷ ‵ (froom MServo′.mir l18 0) ∷ ‵ (fdies MServo′.mir l18) ∷ ‵ (froom tyBool l17 0) ∷ ‵ (fdies tyBool l17) ∷ ‵ (froom tyBool l16 0) ∷ ‵ (fdies tyBool l16) ∷ ‵ (froom MAccepted′.mir l15 0) ∷ ‵ (fdies MAccepted′.mir l15) ∷ ‵ (froom MServo′.mir l14 0) ∷ ‵ (fdies MServo′.mir l14) ∷ ‵ (froom tyBool l13 0) ∷ ‵ (fdies tyBool l13) ∷ ‵ (froom MTold′.mir l12 0) ∷ ‵ (fdies MTold′.mir l12) ∷ ‵ (froom MDelaysWords′.mir l11 0) ∷ ‵ (fdies MDelaysWords′.mir l11) ∷ ‵ (froom MHalvesWords′.mir l10 0) ∷ ‵ (fdies MHalvesWords′.mir l10) ∷ ‵ (froom MStateWords′.mir l9 0) ∷ ‵ (fdies MStateWords′.mir l9) ∷ ‵ (froom MSettingsWords′.mir l8 0) ∷ ‵ (fdies MSettingsWords′.mir l8) ∷ ‵ (froom (tyRef (named 3) mut (pointee (R-AnswerWords .written))) l7 0) ∷ ‵ (fdies (tyRef (named 3) mut (pointee (R-AnswerWords .written))) l7) ∷ ‵ (froom MStamp′.mir l6 0) ∷ ‵ (fdies MStamp′.mir l6) ∷ ‵ (froom (tyInt w16) l5 0) ∷ ‵ (fdies (tyInt w16) l5) ∷ ‵ (froom (tyInt w64) l4 0) ∷ ‵ (fdies (tyInt w64) l4) ∷ ‵ (fat fullShare (tyRef (named 2) mut (pointee (R-Watch .written))) l3 0 (vptr b3 o3)) ∷ ‵ (fdies (tyRef (named 2) mut (pointee (R-Watch .written))) l3) ∷ ‵ (froom (tyRef (named 1) mut (pointee (R-Servo .written))) l2 0) ∷ ‵ (fdies (tyRef (named 1) mut (pointee (R-Servo .written))) l2) ∷ ‵ (froom (tyRef (named 0) mut (pointee (R-UnitWords .written))) l1 0) ∷ ‵ (fdies (tyRef (named 0) mut (pointee (R-UnitWords .written))) l1) ∷ ‵ (froom tyUnit l0 0) ∷ ‵ (fdies tyUnit l0) ∷ []) (runs C Λ En i-23-1 qq)
+      from-23-1 qq ee u-3 g-4 u-7 g-8 u-11 g-12 u-15 g-16 p-18 w-17 e-19 is-20 left1 u-35 g-36 p-38 w-37 e-39 is-40 p-44 w-43 e-45 is-46 held2 =
+          assigns ! (addr ! (from ! (hop ! (look ! 64 refl) (fld ! {τ = (tyArray (tyInt w64) 128)} {d = 16} refl (stop !))))) (from ! (stop !)) (init ! 20 refl (tt, tt)) $
+          assigns ! (addr ! (from ! (hop ! (look ! 64 refl) (fld ! {τ = (tyArray (tyInt w32) 128)} {d = 1040} refl (stop !))))) (from ! (stop !)) (init ! 18 refl (tt, tt)) $
+          assigns ! (addr ! (from ! (hop ! (look ! 64 refl) (fld ! {τ = (tyArray (tyInt w8) 128)} {d = 1552} refl (stop !))))) (from ! (stop !)) (init ! 16 refl (tt, tt)) $
           move ! (14 ∷ 15 ∷ 9 ∷ []) $
           opens ! tt R-Watch {h = h3} b3 o3 (λ vs-49.
           move ! (1 ∷ []) $
@@ -1260,47 +1260,47 @@ module _ {M : Type 1} (𝓤 : URA M) (H : Heap 𝓤) (A : Atoms 𝓤) (W : Given
           move ! (1 ∷ []) $
           use1 W (‵ (fat fullShare MWatch′.mir b3 o3 (only vs-71))) (W .laws .raw-at fullShare MWatch′.mir b3 o3 (only vs-71)) $
           rewrite ! 0 (λ (u : Val). ‵ (fat fullShare MWatch′.mir b3 o3 u)) ((parts-Watch (all-Watch (h3 .head) (ws-59 .0) (ws-59 .1 .0) (ws-59 .1 .1 .0)) (only vs-71) (one-Watch (all-Watch (h3 .head) (ws-59 .0) (ws-59 .1 .0) (ws-59 .1 .1 .0)) vs-71 g-72)) .whole-is) refl $
-          assigns ! (of-opd ! (load ! (from ! (stop !)) (look ! 24 refl))) (from ! (hop ! (look ! 58 refl) (fld ! {τ = MHead′.mir} {d = off-Watch-0} field-Watch-0 (stop !)))) (store-in ! 0 (sub ! {ν = name-of MWatch′.mir} {τs = tys-of MWatch′.mir} 0 {τ = MHead′.mir} {d = off-Watch-0} field-Watch-0 (whole !)) (lawful-Head 𝓤 H A W .typed p-58 _ is-61 .0)) $
+          assigns ! (of-opd ! (load ! (from ! (stop !)) (look ! 24 refl))) (from ! (hop ! (look ! 66 refl) (fld ! {τ = MHead′.mir} {d = off-Watch-0} field-Watch-0 (stop !)))) (store-in ! 0 (sub ! {ν = name-of MWatch′.mir} {τs = tys-of MWatch′.mir} 0 {τ = MHead′.mir} {d = off-Watch-0} field-Watch-0 (whole !)) (lawful-Head 𝓤 H A W .typed p-58 _ is-61 .0)) $
           use1 W (‵ (cellAt fullShare (R-Watch .mir) ((vstruct (ofList (w-57 ∷ ((parts-Watch (all-Watch (h3 .head) (ws-59 .0) (ws-59 .1 .0) (ws-59 .1 .1 .0)) (only vs-71) (one-Watch (all-Watch (h3 .head) (ws-59 .0) (ws-59 .1 .0) (ws-59 .1 .1 .0)) vs-71 g-72)) .pu1) ∷ ((parts-Watch (all-Watch (h3 .head) (ws-59 .0) (ws-59 .1 .0) (ws-59 .1 .1 .0)) (only vs-71) (one-Watch (all-Watch (h3 .head) (ws-59 .0) (ws-59 .1 .0) (ws-59 .1 .1 .0)) vs-71 g-72)) .pu2) ∷ ((parts-Watch (all-Watch (h3 .head) (ws-59 .0) (ws-59 .1 .0) (ws-59 .1 .1 .0)) (only vs-71) (one-Watch (all-Watch (h3 .head) (ws-59 .0) (ws-59 .1 .0) (ws-59 .1 .1 .0)) vs-71 g-72)) .pu3) ∷ []))) ∷ []) b3 o3)) (W .laws .at-raw fullShare MWatch′.mir b3 o3 (vstruct (ofList (w-57 ∷ ((parts-Watch (all-Watch (h3 .head) (ws-59 .0) (ws-59 .1 .0) (ws-59 .1 .1 .0)) (only vs-71) (one-Watch (all-Watch (h3 .head) (ws-59 .0) (ws-59 .1 .0) (ws-59 .1 .1 .0)) vs-71 g-72)) .pu1) ∷ ((parts-Watch (all-Watch (h3 .head) (ws-59 .0) (ws-59 .1 .0) (ws-59 .1 .1 .0)) (only vs-71) (one-Watch (all-Watch (h3 .head) (ws-59 .0) (ws-59 .1 .0) (ws-59 .1 .1 .0)) vs-71 g-72)) .pu2) ∷ ((parts-Watch (all-Watch (h3 .head) (ws-59 .0) (ws-59 .1 .0) (ws-59 .1 .1 .0)) (only vs-71) (one-Watch (all-Watch (h3 .head) (ws-59 .0) (ws-59 .1 .0) (ws-59 .1 .1 .0)) vs-71 g-72)) .pu3) ∷ [])))) $
           move ! (1 ∷ []) $
           drop ! $
           owned ! R-Watch (Is R-Watch) (makes-Watch 𝓤 H A W) (with-Watch-0 (all-Watch (h3 .head) (ws-59 .0) (ws-59 .1 .0) (ws-59 .1 .1 .0)) p-58) _ (shape-Watch (with-Watch-0 (all-Watch (h3 .head) (ws-59 .0) (ws-59 .1 .0) (ws-59 .1 .1 .0)) p-58) w-57 ((parts-Watch (all-Watch (h3 .head) (ws-59 .0) (ws-59 .1 .0) (ws-59 .1 .1 .0)) (only vs-71) (one-Watch (all-Watch (h3 .head) (ws-59 .0) (ws-59 .1 .0) (ws-59 .1 .1 .0)) vs-71 g-72)) .pu1) ((parts-Watch (all-Watch (h3 .head) (ws-59 .0) (ws-59 .1 .0) (ws-59 .1 .1 .0)) (only vs-71) (one-Watch (all-Watch (h3 .head) (ws-59 .0) (ws-59 .1 .0) (ws-59 .1 .1 .0)) vs-71 g-72)) .pu2) ((parts-Watch (all-Watch (h3 .head) (ws-59 .0) (ws-59 .1 .0) (ws-59 .1 .1 .0)) (only vs-71) (one-Watch (all-Watch (h3 .head) (ws-59 .0) (ws-59 .1 .0) (ws-59 .1 .1 .0)) vs-71 g-72)) .pu3) is-61 ((parts-Watch (all-Watch (h3 .head) (ws-59 .0) (ws-59 .1 .0) (ws-59 .1 .1 .0)) (only vs-71) (one-Watch (all-Watch (h3 .head) (ws-59 .0) (ws-59 .1 .0) (ws-59 .1 .1 .0)) vs-71 g-72)) .pg1) ((parts-Watch (all-Watch (h3 .head) (ws-59 .0) (ws-59 .1 .0) (ws-59 .1 .1 .0)) (only vs-71) (one-Watch (all-Watch (h3 .head) (ws-59 .0) (ws-59 .1 .0) (ws-59 .1 .1 .0)) vs-71 g-72)) .pg2) ((parts-Watch (all-Watch (h3 .head) (ws-59 .0) (ws-59 .1 .0) (ws-59 .1 .1 .0)) (only vs-71) (one-Watch (all-Watch (h3 .head) (ws-59 .0) (ws-59 .1 .0) (ws-59 .1 .1 .0)) vs-71 g-72)) .pg3)) $
           move ! (1 ∷ 0 ∷ 2 ∷ 3 ∷ 4 ∷ []) $
           closes ! tt R-Watch (with-Watch-0 (all-Watch (h3 .head) (ws-59 .0) (ws-59 .1 .0) (ws-59 .1 .1 .0)) p-58) ((vstruct (ofList (w-57 ∷ ((parts-Watch (all-Watch (h3 .head) (ws-59 .0) (ws-59 .1 .0) (ws-59 .1 .1 .0)) (only vs-71) (one-Watch (all-Watch (h3 .head) (ws-59 .0) (ws-59 .1 .0) (ws-59 .1 .1 .0)) vs-71 g-72)) .pu1) ∷ ((parts-Watch (all-Watch (h3 .head) (ws-59 .0) (ws-59 .1 .0) (ws-59 .1 .1 .0)) (only vs-71) (one-Watch (all-Watch (h3 .head) (ws-59 .0) (ws-59 .1 .0) (ws-59 .1 .1 .0)) vs-71 g-72)) .pu2) ∷ ((parts-Watch (all-Watch (h3 .head) (ws-59 .0) (ws-59 .1 .0) (ws-59 .1 .1 .0)) (only vs-71) (one-Watch (all-Watch (h3 .head) (ws-59 .0) (ws-59 .1 .0) (ws-59 .1 .1 .0)) vs-71 g-72)) .pu3) ∷ []))) ∷ []) b3 o3 $
-          forget ! 56 refl $ forget ! 20 refl $ forget ! 18 refl $ forget ! 16 refl $ forget ! 22 refl $
-          from-19-6 qq ee u-3 g-4 u-7 g-8 u-11 g-12 u-15 g-16 p-18 w-17 e-19 is-20 left1 u-35 g-36 p-38 w-37 e-39 is-40 p-44 w-43 e-45 is-46 held2 (ws-59 .0) (ws-59 .1 .0) (ws-59 .1 .1 .0) p-58 w-57 e-60 is-61)))))))))))))))))))))
+          forget ! 64 refl $ forget ! 20 refl $ forget ! 18 refl $ forget ! 16 refl $ forget ! 22 refl $
+          from-23-6 qq ee u-3 g-4 u-7 g-8 u-11 g-12 u-15 g-16 p-18 w-17 e-19 is-20 left1 u-35 g-36 p-38 w-37 e-39 is-40 p-44 w-43 e-45 is-46 held2 (ws-59 .0) (ws-59 .1 .0) (ws-59 .1 .1 .0) p-58 w-57 e-60 is-61)))))))))))))))))))))
 
-      from-20 : (u-3 : Val) (g-4 : Is R-SettingsWords (h1 .settings) (u-3 ∷ [])) (u-7 : Val) (g-8 : Is R-StateWords (h1 .state) (u-7 ∷ [])) (u-11 : Val) (g-12 : Is R-HalvesWords (h1 .halves) (u-11 ∷ [])) (u-15 : Val) (g-16 : Is R-DelaysWords (h1 .delays) (u-15 ∷ [])) (p-18 : STold.Told) (w-17 : Val) (e-19 : p-18 ≡ sentTold (h1 .settings) (h1 .state) (h1 .halves) (h1 .delays) h4 h5 h6) (is-20 : Is R-Told p-18 (w-17 ∷ [])) (left1 : Holds (not (p-18 .barred))) (u-35 : Val) (g-36 : Is R-Servo h2 (u-35 ∷ [])) (p-38 : SServo.Servo) (w-37 : Val) (e-39 : p-38 ≡ servoAfter (h1 .settings) h2 (p-18 .found) (p-18 .steers) (p-18 .wipes)) (is-40 : Is R-Servo p-38 (w-37 ∷ [])) (p-44 : SAnswerWords.AnswerWords) (w-43 : Val) (e-45 : p-44 ≡ outputSaid (p-18 .code) (p-18 .sequence) (p-18 .found) (p-18 .steers) p-38) (is-46 : Is R-AnswerWords p-44 (w-43 ∷ [])) (left2 : Holds (not (p-18 .wipes))) → Sq W (‵ (fobs γ7 (R-AnswerWords .coded .code p-44)) ∷ ‵ (fbor κ7 (Body (mem R-AnswerWords) b7 o7 γ7)) ∷ ‵ (flft κ7 q7) ∷ ‵ (fobs γ2 (R-Servo .coded .code p-38)) ∷ ‵ (fbor κ2 (Body (mem R-Servo) b2 o2 γ2)) ∷ ‵ (flft κ2 q2) ∷ ‵ (fobs γ1 (R-UnitWords .coded .code (with-UnitWords-3 (with-UnitWords-2 (with-UnitWords-1 h1 (p-18 .state)) (p-18 .halves)) (p-18 .delays)))) ∷ ‵ (fbor κ1 (Body (mem R-UnitWords) b1 o1 γ1)) ∷ ‵ (flft κ1 q1) ∷ ‵ (flft κ3 q3) ∷ ‵ (ftrue) ∷ ‵ (R-Stamp .own h6 (u6 ∷ [])) ∷ ‵ (R-u16 .own h5 (u5 ∷ [])) ∷ ‵ (R-u64 .own h4 (u4 ∷ [])) ∷ ‵ (fobs γ3 (R-Watch .coded .code h3)) ∷ ‵ (fbor κ3 (Body (mem R-Watch) b3 o3 γ3)) ∷ ‵ (froom (tyRef erased mut (pointee (R-u8x128 .written))) l23 0) ∷ ‵ (fdies (tyRef erased mut (pointee (R-u8x128 .written))) l23) ∷ ‵ (froom (tyRef erased mut (pointee (R-i32x128 .written))) l22 0) ∷ ‵ (fdies (tyRef erased mut (pointee (R-i32x128 .written))) l22) ∷ ‵ (froom (tyRef erased mut (pointee (R-i64x128 .written))) l21 0) ∷ ‵ (fdies (tyRef erased mut (pointee (R-i64x128 .written))) l21) ∷ ‵ (froom MHead′.mir l20 0) ∷ ‵ (fdies MHead′.mir l20) ∷ ‵ (froom MAnswerWords′.mir l19 0) ∷ ‵ (fdies MAnswerWords′.mir l19) ∷ ‵ (froom MAnswerWords′.mir l18 0) ∷ ‵ (fdies MAnswerWords′.mir l18) ∷ ‵ (froom tyBool l17 0) ∷ ‵ (fdies tyBool l17) ∷ ‵ (froom tyBool l16 0) ∷ ‵ (fdies tyBool l16) ∷ ‵ (froom MServo′.mir l15 0) ∷ ‵ (fdies MServo′.mir l15) ∷ ‵ (froom MServo′.mir l14 0) ∷ ‵ (fdies MServo′.mir l14) ∷ ‵ (froom tyBool l13 0) ∷ ‵ (fdies tyBool l13) ∷ ‵ (froom MTold′.mir l12 0) ∷ ‵ (fdies MTold′.mir l12) ∷ ‵ (froom MDelaysWords′.mir l11 0) ∷ ‵ (fdies MDelaysWords′.mir l11) ∷ ‵ (froom MHalvesWords′.mir l10 0) ∷ ‵ (fdies MHalvesWords′.mir l10) ∷ ‵ (froom MStateWords′.mir l9 0) ∷ ‵ (fdies MStateWords′.mir l9) ∷ ‵ (froom MSettingsWords′.mir l8 0) ∷ ‵ (fdies MSettingsWords′.mir l8) ∷ ‵ (froom (tyRef (named 3) mut (pointee (R-AnswerWords .written))) l7 0) ∷ ‵ (fdies (tyRef (named 3) mut (pointee (R-AnswerWords .written))) l7) ∷ ‵ (froom MStamp′.mir l6 0) ∷ ‵ (fdies MStamp′.mir l6) ∷ ‵ (froom (tyInt w16) l5 0) ∷ ‵ (fdies (tyInt w16) l5) ∷ ‵ (froom (tyInt w64) l4 0) ∷ ‵ (fdies (tyInt w64) l4) ∷ ‵ (froom (tyRef (named 2) mut (pointee (R-Watch .written))) l3 0) ∷ ‵ (fdies (tyRef (named 2) mut (pointee (R-Watch .written))) l3) ∷ ‵ (froom (tyRef (named 1) mut (pointee (R-Servo .written))) l2 0) ∷ ‵ (fdies (tyRef (named 1) mut (pointee (R-Servo .written))) l2) ∷ ‵ (froom (tyRef (named 0) mut (pointee (R-UnitWords .written))) l1 0) ∷ ‵ (fdies (tyRef (named 0) mut (pointee (R-UnitWords .written))) l1) ∷ ‵ (froom tyUnit l0 0) ∷ ‵ (fdies tyUnit l0) ∷ []) (runs C Λ En mir′.t-20 (atRet En Post))
-      from-20 u-3 g-4 u-7 g-8 u-11 g-12 u-15 g-16 p-18 w-17 e-19 is-20 left1 u-35 g-36 p-38 w-37 e-39 is-40 p-44 w-43 e-45 is-46 left2 =
-          assigns ! (of-opd ! (unit-lit !)) (from ! (stop !)) (init ! 62 refl (tt, tt)) $
-          returns ! (look ! 62 refl) $
-          forget ! 62 refl $
-          move ! (62 ∷ 63 ∷ 60 ∷ 61 ∷ 58 ∷ 59 ∷ 56 ∷ 57 ∷ 54 ∷ 55 ∷ 52 ∷ 53 ∷ 50 ∷ 51 ∷ 48 ∷ 49 ∷ 46 ∷ 47 ∷ 44 ∷ 45 ∷ 42 ∷ 43 ∷ 40 ∷ 41 ∷ 38 ∷ 39 ∷ 36 ∷ 37 ∷ 34 ∷ 35 ∷ 32 ∷ 33 ∷ 30 ∷ 31 ∷ 28 ∷ 29 ∷ 26 ∷ 27 ∷ 24 ∷ 25 ∷ 22 ∷ 23 ∷ 20 ∷ 21 ∷ 18 ∷ 19 ∷ 16 ∷ 17 ∷ []) $
+      from-24 : (u-3 : Val) (g-4 : Is R-SettingsWords (h1 .settings) (u-3 ∷ [])) (u-7 : Val) (g-8 : Is R-StateWords (h1 .state) (u-7 ∷ [])) (u-11 : Val) (g-12 : Is R-HalvesWords (h1 .halves) (u-11 ∷ [])) (u-15 : Val) (g-16 : Is R-DelaysWords (h1 .delays) (u-15 ∷ [])) (p-18 : STold.Told) (w-17 : Val) (e-19 : p-18 ≡ sentTold (h1 .settings) (h1 .state) (h1 .halves) (h1 .delays) h4 h5 h6) (is-20 : Is R-Told p-18 (w-17 ∷ [])) (left1 : Holds (not (p-18 .barred))) (u-35 : Val) (g-36 : Is R-Servo h2 (u-35 ∷ [])) (p-38 : SServo.Servo) (w-37 : Val) (e-39 : p-38 ≡ servoAfter (h1 .settings) h2 (p-18 .found) (p-18 .steers) (p-18 .wipes)) (is-40 : Is R-Servo p-38 (w-37 ∷ [])) (p-44 : SAnswerWords.AnswerWords) (w-43 : Val) (e-45 : p-44 ≡ outputSaid (p-18 .code) (p-18 .sequence) (p-18 .found) (p-18 .steers) p-38) (is-46 : Is R-AnswerWords p-44 (w-43 ∷ [])) (left2 : Holds (not (p-18 .wipes))) → Sq W (‵ (fobs γ7 (R-AnswerWords .coded .code p-44)) ∷ ‵ (fbor κ7 (Body (mem R-AnswerWords) b7 o7 γ7)) ∷ ‵ (flft κ7 q7) ∷ ‵ (fobs γ2 (R-Servo .coded .code p-38)) ∷ ‵ (fbor κ2 (Body (mem R-Servo) b2 o2 γ2)) ∷ ‵ (flft κ2 q2) ∷ ‵ (fobs γ1 (R-UnitWords .coded .code (with-UnitWords-3 (with-UnitWords-2 (with-UnitWords-1 h1 (p-18 .state)) (p-18 .halves)) (p-18 .delays)))) ∷ ‵ (fbor κ1 (Body (mem R-UnitWords) b1 o1 γ1)) ∷ ‵ (flft κ1 q1) ∷ ‵ (flft κ3 q3) ∷ ‵ (ftrue) ∷ ‵ (R-Stamp .own h6 (u6 ∷ [])) ∷ ‵ (R-u16 .own h5 (u5 ∷ [])) ∷ ‵ (R-u64 .own h4 (u4 ∷ [])) ∷ ‵ (fobs γ3 (R-Watch .coded .code h3)) ∷ ‵ (fbor κ3 (Body (mem R-Watch) b3 o3 γ3)) ∷ ‵ (froom (tyRef erased mut (pointee (R-u8x128 .written))) l27 0) ∷ ‵ (fdies (tyRef erased mut (pointee (R-u8x128 .written))) l27) ∷ ‵ (froom (tyRef erased mut (pointee (R-i32x128 .written))) l26 0) ∷ ‵ (fdies (tyRef erased mut (pointee (R-i32x128 .written))) l26) ∷ ‵ (froom (tyRef erased mut (pointee (R-i64x128 .written))) l25 0) ∷ ‵ (fdies (tyRef erased mut (pointee (R-i64x128 .written))) l25) ∷ ‵ (froom MHead′.mir l24 0) ∷ ‵ (fdies MHead′.mir l24) ∷ ‵ (froom MAnswerWords′.mir l23 0) ∷ ‵ (fdies MAnswerWords′.mir l23) ∷ ‵ (froom MAnswerWords′.mir l22 0) ∷ ‵ (fdies MAnswerWords′.mir l22) ∷ ‵ (froom tyBool l21 0) ∷ ‵ (fdies tyBool l21) ∷ ‵ (froom (tyInt w16) l20 0) ∷ ‵ (fdies (tyInt w16) l20) ∷ ‵ (froom (tyInt w8) l19 0) ∷ ‵ (fdies (tyInt w8) l19) ∷ ‵ (froom MServo′.mir l18 0) ∷ ‵ (fdies MServo′.mir l18) ∷ ‵ (froom tyBool l17 0) ∷ ‵ (fdies tyBool l17) ∷ ‵ (froom tyBool l16 0) ∷ ‵ (fdies tyBool l16) ∷ ‵ (froom MAccepted′.mir l15 0) ∷ ‵ (fdies MAccepted′.mir l15) ∷ ‵ (froom MServo′.mir l14 0) ∷ ‵ (fdies MServo′.mir l14) ∷ ‵ (froom tyBool l13 0) ∷ ‵ (fdies tyBool l13) ∷ ‵ (froom MTold′.mir l12 0) ∷ ‵ (fdies MTold′.mir l12) ∷ ‵ (froom MDelaysWords′.mir l11 0) ∷ ‵ (fdies MDelaysWords′.mir l11) ∷ ‵ (froom MHalvesWords′.mir l10 0) ∷ ‵ (fdies MHalvesWords′.mir l10) ∷ ‵ (froom MStateWords′.mir l9 0) ∷ ‵ (fdies MStateWords′.mir l9) ∷ ‵ (froom MSettingsWords′.mir l8 0) ∷ ‵ (fdies MSettingsWords′.mir l8) ∷ ‵ (froom (tyRef (named 3) mut (pointee (R-AnswerWords .written))) l7 0) ∷ ‵ (fdies (tyRef (named 3) mut (pointee (R-AnswerWords .written))) l7) ∷ ‵ (froom MStamp′.mir l6 0) ∷ ‵ (fdies MStamp′.mir l6) ∷ ‵ (froom (tyInt w16) l5 0) ∷ ‵ (fdies (tyInt w16) l5) ∷ ‵ (froom (tyInt w64) l4 0) ∷ ‵ (fdies (tyInt w64) l4) ∷ ‵ (froom (tyRef (named 2) mut (pointee (R-Watch .written))) l3 0) ∷ ‵ (fdies (tyRef (named 2) mut (pointee (R-Watch .written))) l3) ∷ ‵ (froom (tyRef (named 1) mut (pointee (R-Servo .written))) l2 0) ∷ ‵ (fdies (tyRef (named 1) mut (pointee (R-Servo .written))) l2) ∷ ‵ (froom (tyRef (named 0) mut (pointee (R-UnitWords .written))) l1 0) ∷ ‵ (fdies (tyRef (named 0) mut (pointee (R-UnitWords .written))) l1) ∷ ‵ (froom tyUnit l0 0) ∷ ‵ (fdies tyUnit l0) ∷ []) (runs C Λ En mir′.t-24 (atRet En Post))
+      from-24 u-3 g-4 u-7 g-8 u-11 g-12 u-15 g-16 p-18 w-17 e-19 is-20 left1 u-35 g-36 p-38 w-37 e-39 is-40 p-44 w-43 e-45 is-46 left2 =
+          assigns ! (of-opd ! (unit-lit !)) (from ! (stop !)) (init ! 70 refl (tt, tt)) $
+          returns ! (look ! 70 refl) $
+          forget ! 70 refl $
+          move ! (70 ∷ 71 ∷ 68 ∷ 69 ∷ 66 ∷ 67 ∷ 64 ∷ 65 ∷ 62 ∷ 63 ∷ 60 ∷ 61 ∷ 58 ∷ 59 ∷ 56 ∷ 57 ∷ 54 ∷ 55 ∷ 52 ∷ 53 ∷ 50 ∷ 51 ∷ 48 ∷ 49 ∷ 46 ∷ 47 ∷ 44 ∷ 45 ∷ 42 ∷ 43 ∷ 40 ∷ 41 ∷ 38 ∷ 39 ∷ 36 ∷ 37 ∷ 34 ∷ 35 ∷ 32 ∷ 33 ∷ 30 ∷ 31 ∷ 28 ∷ 29 ∷ 26 ∷ 27 ∷ 24 ∷ 25 ∷ 22 ∷ 23 ∷ 20 ∷ 21 ∷ 18 ∷ 19 ∷ 16 ∷ 17 ∷ []) $
           freed _ _ (
           keep ! (6 ∷ 7 ∷ 8 ∷ 3 ∷ 4 ∷ 5 ∷ 14 ∷ 15 ∷ 9 ∷ 0 ∷ 1 ∷ 2 ∷ 13 ∷ 12 ∷ 11 ∷ 10 ∷ []) $
           by ! (exits-3 u-3 g-4 u-7 g-8 u-11 g-12 u-15 g-16 p-18 w-17 e-19 is-20 left1 u-35 g-36 p-38 w-37 e-39 is-40 p-44 w-43 e-45 is-46 left2))
 
-      from-17 : (u-3 : Val) (g-4 : Is R-SettingsWords (h1 .settings) (u-3 ∷ [])) (u-7 : Val) (g-8 : Is R-StateWords (h1 .state) (u-7 ∷ [])) (u-11 : Val) (g-12 : Is R-HalvesWords (h1 .halves) (u-11 ∷ [])) (u-15 : Val) (g-16 : Is R-DelaysWords (h1 .delays) (u-15 ∷ [])) (p-18 : STold.Told) (w-17 : Val) (e-19 : p-18 ≡ sentTold (h1 .settings) (h1 .state) (h1 .halves) (h1 .delays) h4 h5 h6) (is-20 : Is R-Told p-18 (w-17 ∷ [])) (left1 : Holds (not (p-18 .barred))) (u-35 : Val) (g-36 : Is R-Servo h2 (u-35 ∷ [])) (p-38 : SServo.Servo) (w-37 : Val) (e-39 : p-38 ≡ servoAfter (h1 .settings) h2 (p-18 .found) (p-18 .steers) (p-18 .wipes)) (is-40 : Is R-Servo p-38 (w-37 ∷ [])) (p-44 : SAnswerWords.AnswerWords) (w-43 : Val) (e-45 : p-44 ≡ outputSaid (p-18 .code) (p-18 .sequence) (p-18 .found) (p-18 .steers) p-38) (is-46 : Is R-AnswerWords p-44 (w-43 ∷ [])) → Sq W (‵ (fobs γ7 (R-AnswerWords .coded .code p-44)) ∷ ‵ (fbor κ7 (Body (mem R-AnswerWords) b7 o7 γ7)) ∷ ‵ (flft κ7 q7) ∷ ‵ (fobs γ2 (R-Servo .coded .code p-38)) ∷ ‵ (fbor κ2 (Body (mem R-Servo) b2 o2 γ2)) ∷ ‵ (flft κ2 q2) ∷ ‵ (fobs γ1 (R-UnitWords .coded .code (with-UnitWords-3 (with-UnitWords-2 (with-UnitWords-1 h1 (p-18 .state)) (p-18 .halves)) (p-18 .delays)))) ∷ ‵ (fbor κ1 (Body (mem R-UnitWords) b1 o1 γ1)) ∷ ‵ (flft κ1 q1) ∷ ‵ (flft κ3 q3) ∷ ‵ (ftrue) ∷ ‵ (R-Stamp .own h6 (u6 ∷ [])) ∷ ‵ (R-u16 .own h5 (u5 ∷ [])) ∷ ‵ (R-u64 .own h4 (u4 ∷ [])) ∷ ‵ (fobs γ3 (R-Watch .coded .code h3)) ∷ ‵ (fbor κ3 (Body (mem R-Watch) b3 o3 γ3)) ∷ ‵ (froom (tyRef erased mut (pointee (R-u8x128 .written))) l23 0) ∷ ‵ (fdies (tyRef erased mut (pointee (R-u8x128 .written))) l23) ∷ ‵ (froom (tyRef erased mut (pointee (R-i32x128 .written))) l22 0) ∷ ‵ (fdies (tyRef erased mut (pointee (R-i32x128 .written))) l22) ∷ ‵ (froom (tyRef erased mut (pointee (R-i64x128 .written))) l21 0) ∷ ‵ (fdies (tyRef erased mut (pointee (R-i64x128 .written))) l21) ∷ ‵ (froom MHead′.mir l20 0) ∷ ‵ (fdies MHead′.mir l20) ∷ ‵ (froom MAnswerWords′.mir l19 0) ∷ ‵ (fdies MAnswerWords′.mir l19) ∷ ‵ (froom MAnswerWords′.mir l18 0) ∷ ‵ (fdies MAnswerWords′.mir l18) ∷ ‵ (froom tyBool l17 0) ∷ ‵ (fdies tyBool l17) ∷ ‵ (froom tyBool l16 0) ∷ ‵ (fdies tyBool l16) ∷ ‵ (froom MServo′.mir l15 0) ∷ ‵ (fdies MServo′.mir l15) ∷ ‵ (froom MServo′.mir l14 0) ∷ ‵ (fdies MServo′.mir l14) ∷ ‵ (froom tyBool l13 0) ∷ ‵ (fdies tyBool l13) ∷ ‵ (fat fullShare MTold′.mir l12 0 w-17) ∷ ‵ (fdies MTold′.mir l12) ∷ ‵ (froom MDelaysWords′.mir l11 0) ∷ ‵ (fdies MDelaysWords′.mir l11) ∷ ‵ (froom MHalvesWords′.mir l10 0) ∷ ‵ (fdies MHalvesWords′.mir l10) ∷ ‵ (froom MStateWords′.mir l9 0) ∷ ‵ (fdies MStateWords′.mir l9) ∷ ‵ (froom MSettingsWords′.mir l8 0) ∷ ‵ (fdies MSettingsWords′.mir l8) ∷ ‵ (froom (tyRef (named 3) mut (pointee (R-AnswerWords .written))) l7 0) ∷ ‵ (fdies (tyRef (named 3) mut (pointee (R-AnswerWords .written))) l7) ∷ ‵ (froom MStamp′.mir l6 0) ∷ ‵ (fdies MStamp′.mir l6) ∷ ‵ (froom (tyInt w16) l5 0) ∷ ‵ (fdies (tyInt w16) l5) ∷ ‵ (froom (tyInt w64) l4 0) ∷ ‵ (fdies (tyInt w64) l4) ∷ ‵ (fat fullShare (tyRef (named 2) mut (pointee (R-Watch .written))) l3 0 (vptr b3 o3)) ∷ ‵ (fdies (tyRef (named 2) mut (pointee (R-Watch .written))) l3) ∷ ‵ (froom (tyRef (named 1) mut (pointee (R-Servo .written))) l2 0) ∷ ‵ (fdies (tyRef (named 1) mut (pointee (R-Servo .written))) l2) ∷ ‵ (froom (tyRef (named 0) mut (pointee (R-UnitWords .written))) l1 0) ∷ ‵ (fdies (tyRef (named 0) mut (pointee (R-UnitWords .written))) l1) ∷ ‵ (froom tyUnit l0 0) ∷ ‵ (fdies tyUnit l0) ∷ []) (runs C Λ En mir′.t-17 (atRet En Post))
-      from-17 u-3 g-4 u-7 g-8 u-11 g-12 u-15 g-16 p-18 w-17 e-19 is-20 left1 u-35 g-36 p-38 w-37 e-39 is-40 p-44 w-43 e-45 is-46 =
-          rewrite ! 38 (λ (u : Val). ‵ (fat fullShare MTold′.mir l12 0 u)) ((parts-Told p-18 w-17 is-20) .whole-is) refl $
-          assigns ! (of-opd ! (load ! (from ! (fld ! {τ = tyBool} {d = off-Told-8} field-Told-8 (stop !))) (look-in ! 38 (sub ! {ν = name-of MTold′.mir} {τs = tys-of MTold′.mir} 8 {τ = tyBool} {d = off-Told-8} field-Told-8 (whole !))))) (from ! (stop !)) (init ! 30 refl (lawful-bool 𝓤 H A W .typed (p-18 .wipes) _ ((parts-Told p-18 w-17 is-20) .pg8) .0)) $
-          assigns ! (of-opd ! (load ! (from ! (stop !)) (look ! 30 refl))) (from ! (stop !)) (init ! 28 refl (lawful-bool 𝓤 H A W .typed (p-18 .wipes) _ ((parts-Told p-18 w-17 is-20) .pg8) .0)) $
-          rewrite ! 28 (λ (u : Val). ‵ (fat fullShare tyBool l17 0 u)) (ap only (tells-bool (p-18 .wipes) (((parts-Told p-18 w-17 is-20) .pu8) ∷ []) ((parts-Told p-18 w-17 is-20) .pg8))) refl $
+      from-22 : (u-3 : Val) (g-4 : Is R-SettingsWords (h1 .settings) (u-3 ∷ [])) (u-7 : Val) (g-8 : Is R-StateWords (h1 .state) (u-7 ∷ [])) (u-11 : Val) (g-12 : Is R-HalvesWords (h1 .halves) (u-11 ∷ [])) (u-15 : Val) (g-16 : Is R-DelaysWords (h1 .delays) (u-15 ∷ [])) (p-18 : STold.Told) (w-17 : Val) (e-19 : p-18 ≡ sentTold (h1 .settings) (h1 .state) (h1 .halves) (h1 .delays) h4 h5 h6) (is-20 : Is R-Told p-18 (w-17 ∷ [])) (left1 : Holds (not (p-18 .barred))) (u-35 : Val) (g-36 : Is R-Servo h2 (u-35 ∷ [])) (p-38 : SServo.Servo) (w-37 : Val) (e-39 : p-38 ≡ servoAfter (h1 .settings) h2 (p-18 .found) (p-18 .steers) (p-18 .wipes)) (is-40 : Is R-Servo p-38 (w-37 ∷ [])) (p-44 : SAnswerWords.AnswerWords) (w-43 : Val) (e-45 : p-44 ≡ outputSaid (p-18 .code) (p-18 .sequence) (p-18 .found) (p-18 .steers) p-38) (is-46 : Is R-AnswerWords p-44 (w-43 ∷ [])) → Sq W (‵ (fobs γ7 (R-AnswerWords .coded .code p-44)) ∷ ‵ (fbor κ7 (Body (mem R-AnswerWords) b7 o7 γ7)) ∷ ‵ (flft κ7 q7) ∷ ‵ (fobs γ2 (R-Servo .coded .code p-38)) ∷ ‵ (fbor κ2 (Body (mem R-Servo) b2 o2 γ2)) ∷ ‵ (flft κ2 q2) ∷ ‵ (fobs γ1 (R-UnitWords .coded .code (with-UnitWords-3 (with-UnitWords-2 (with-UnitWords-1 h1 (p-18 .state)) (p-18 .halves)) (p-18 .delays)))) ∷ ‵ (fbor κ1 (Body (mem R-UnitWords) b1 o1 γ1)) ∷ ‵ (flft κ1 q1) ∷ ‵ (flft κ3 q3) ∷ ‵ (ftrue) ∷ ‵ (R-Stamp .own h6 (u6 ∷ [])) ∷ ‵ (R-u16 .own h5 (u5 ∷ [])) ∷ ‵ (R-u64 .own h4 (u4 ∷ [])) ∷ ‵ (fobs γ3 (R-Watch .coded .code h3)) ∷ ‵ (fbor κ3 (Body (mem R-Watch) b3 o3 γ3)) ∷ ‵ (froom (tyRef erased mut (pointee (R-u8x128 .written))) l27 0) ∷ ‵ (fdies (tyRef erased mut (pointee (R-u8x128 .written))) l27) ∷ ‵ (froom (tyRef erased mut (pointee (R-i32x128 .written))) l26 0) ∷ ‵ (fdies (tyRef erased mut (pointee (R-i32x128 .written))) l26) ∷ ‵ (froom (tyRef erased mut (pointee (R-i64x128 .written))) l25 0) ∷ ‵ (fdies (tyRef erased mut (pointee (R-i64x128 .written))) l25) ∷ ‵ (froom MHead′.mir l24 0) ∷ ‵ (fdies MHead′.mir l24) ∷ ‵ (froom MAnswerWords′.mir l23 0) ∷ ‵ (fdies MAnswerWords′.mir l23) ∷ ‵ (froom MAnswerWords′.mir l22 0) ∷ ‵ (fdies MAnswerWords′.mir l22) ∷ ‵ (froom tyBool l21 0) ∷ ‵ (fdies tyBool l21) ∷ ‵ (froom (tyInt w16) l20 0) ∷ ‵ (fdies (tyInt w16) l20) ∷ ‵ (froom (tyInt w8) l19 0) ∷ ‵ (fdies (tyInt w8) l19) ∷ ‵ (froom MServo′.mir l18 0) ∷ ‵ (fdies MServo′.mir l18) ∷ ‵ (fat fullShare tyBool l17 0 ((parts-Told p-18 w-17 is-20) .pu8)) ∷ ‵ (fdies tyBool l17) ∷ ‵ (froom tyBool l16 0) ∷ ‵ (fdies tyBool l16) ∷ ‵ (froom MAccepted′.mir l15 0) ∷ ‵ (fdies MAccepted′.mir l15) ∷ ‵ (froom MServo′.mir l14 0) ∷ ‵ (fdies MServo′.mir l14) ∷ ‵ (froom tyBool l13 0) ∷ ‵ (fdies tyBool l13) ∷ ‵ (froom MTold′.mir l12 0) ∷ ‵ (fdies MTold′.mir l12) ∷ ‵ (froom MDelaysWords′.mir l11 0) ∷ ‵ (fdies MDelaysWords′.mir l11) ∷ ‵ (froom MHalvesWords′.mir l10 0) ∷ ‵ (fdies MHalvesWords′.mir l10) ∷ ‵ (froom MStateWords′.mir l9 0) ∷ ‵ (fdies MStateWords′.mir l9) ∷ ‵ (froom MSettingsWords′.mir l8 0) ∷ ‵ (fdies MSettingsWords′.mir l8) ∷ ‵ (froom (tyRef (named 3) mut (pointee (R-AnswerWords .written))) l7 0) ∷ ‵ (fdies (tyRef (named 3) mut (pointee (R-AnswerWords .written))) l7) ∷ ‵ (froom MStamp′.mir l6 0) ∷ ‵ (fdies MStamp′.mir l6) ∷ ‵ (froom (tyInt w16) l5 0) ∷ ‵ (fdies (tyInt w16) l5) ∷ ‵ (froom (tyInt w64) l4 0) ∷ ‵ (fdies (tyInt w64) l4) ∷ ‵ (fat fullShare (tyRef (named 2) mut (pointee (R-Watch .written))) l3 0 (vptr b3 o3)) ∷ ‵ (fdies (tyRef (named 2) mut (pointee (R-Watch .written))) l3) ∷ ‵ (froom (tyRef (named 1) mut (pointee (R-Servo .written))) l2 0) ∷ ‵ (fdies (tyRef (named 1) mut (pointee (R-Servo .written))) l2) ∷ ‵ (froom (tyRef (named 0) mut (pointee (R-UnitWords .written))) l1 0) ∷ ‵ (fdies (tyRef (named 0) mut (pointee (R-UnitWords .written))) l1) ∷ ‵ (froom tyUnit l0 0) ∷ ‵ (fdies tyUnit l0) ∷ []) (runs C Λ En mir′.t-22 (atRet En Post))
+      from-22 u-3 g-4 u-7 g-8 u-11 g-12 u-15 g-16 p-18 w-17 e-19 is-20 left1 u-35 g-36 p-38 w-37 e-39 is-40 p-44 w-43 e-45 is-46 =
+          assigns ! (of-opd ! (load ! (from ! (stop !)) (look ! 36 refl))) (from ! (stop !)) (init ! 28 refl (lawful-bool 𝓤 H A W .typed (p-18 .wipes) _ ((parts-Told p-18 w-17 is-20) .pg8) .0)) $
+          rewrite ! 28 (λ (u : Val). ‵ (fat fullShare tyBool l21 0 u)) (ap only (tells-bool (p-18 .wipes) (((parts-Told p-18 w-17 is-20) .pu8) ∷ []) ((parts-Told p-18 w-17 is-20) .pg8))) refl $
           first ! $ branches ! (load ! (from ! (stop !)) (look ! 28 refl))
-          (λ held2. forget ! 38 refl $ forget ! 30 refl $ forget ! 28 refl $ from-19-1 _ refl u-3 g-4 u-7 g-8 u-11 g-12 u-15 g-16 p-18 w-17 e-19 is-20 left1 u-35 g-36 p-38 w-37 e-39 is-40 p-44 w-43 e-45 is-46 held2)
-          (λ left2. skips ! $ exec ! C Λ En mir′.t-20 (atRet En Post) $
-          forget ! 56 refl $ forget ! 38 refl $ forget ! 30 refl $ forget ! 28 refl $
-          from-20 u-3 g-4 u-7 g-8 u-11 g-12 u-15 g-16 p-18 w-17 e-19 is-20 left1 u-35 g-36 p-38 w-37 e-39 is-40 p-44 w-43 e-45 is-46 left2)
+          (λ held2. forget ! 36 refl $ forget ! 28 refl $ from-23-1 _ refl u-3 g-4 u-7 g-8 u-11 g-12 u-15 g-16 p-18 w-17 e-19 is-20 left1 u-35 g-36 p-38 w-37 e-39 is-40 p-44 w-43 e-45 is-46 held2)
+          (λ left2. skips ! $ exec ! C Λ En mir′.t-24 (atRet En Post) $
+          forget ! 64 refl $ forget ! 36 refl $ forget ! 28 refl $
+          from-24 u-3 g-4 u-7 g-8 u-11 g-12 u-15 g-16 p-18 w-17 e-19 is-20 left1 u-35 g-36 p-38 w-37 e-39 is-40 p-44 w-43 e-45 is-46 left2)
 
-      from-15 : (u-3 : Val) (g-4 : Is R-SettingsWords (h1 .settings) (u-3 ∷ [])) (u-7 : Val) (g-8 : Is R-StateWords (h1 .state) (u-7 ∷ [])) (u-11 : Val) (g-12 : Is R-HalvesWords (h1 .halves) (u-11 ∷ [])) (u-15 : Val) (g-16 : Is R-DelaysWords (h1 .delays) (u-15 ∷ [])) (p-18 : STold.Told) (w-17 : Val) (e-19 : p-18 ≡ sentTold (h1 .settings) (h1 .state) (h1 .halves) (h1 .delays) h4 h5 h6) (is-20 : Is R-Told p-18 (w-17 ∷ [])) (left1 : Holds (not (p-18 .barred))) (u-35 : Val) (g-36 : Is R-Servo h2 (u-35 ∷ [])) (p-38 : SServo.Servo) (w-37 : Val) (e-39 : p-38 ≡ servoAfter (h1 .settings) h2 (p-18 .found) (p-18 .steers) (p-18 .wipes)) (is-40 : Is R-Servo p-38 (w-37 ∷ [])) → Sq W (‵ (fobs γ2 (R-Servo .coded .code p-38)) ∷ ‵ (fbor κ2 (Body (mem R-Servo) b2 o2 γ2)) ∷ ‵ (flft κ2 q2) ∷ ‵ (fobs γ1 (R-UnitWords .coded .code (with-UnitWords-3 (with-UnitWords-2 (with-UnitWords-1 h1 (p-18 .state)) (p-18 .halves)) (p-18 .delays)))) ∷ ‵ (fbor κ1 (Body (mem R-UnitWords) b1 o1 γ1)) ∷ ‵ (flft κ1 q1) ∷ ‵ (flft κ7 q7) ∷ ‵ (flft κ3 q3) ∷ ‵ (ftrue) ∷ ‵ (fobs γ7 (R-AnswerWords .coded .code h7)) ∷ ‵ (fbor κ7 (Body (mem R-AnswerWords) b7 o7 γ7)) ∷ ‵ (R-Stamp .own h6 (u6 ∷ [])) ∷ ‵ (R-u16 .own h5 (u5 ∷ [])) ∷ ‵ (R-u64 .own h4 (u4 ∷ [])) ∷ ‵ (fobs γ3 (R-Watch .coded .code h3)) ∷ ‵ (fbor κ3 (Body (mem R-Watch) b3 o3 γ3)) ∷ ‵ (froom (tyRef erased mut (pointee (R-u8x128 .written))) l23 0) ∷ ‵ (fdies (tyRef erased mut (pointee (R-u8x128 .written))) l23) ∷ ‵ (froom (tyRef erased mut (pointee (R-i32x128 .written))) l22 0) ∷ ‵ (fdies (tyRef erased mut (pointee (R-i32x128 .written))) l22) ∷ ‵ (froom (tyRef erased mut (pointee (R-i64x128 .written))) l21 0) ∷ ‵ (fdies (tyRef erased mut (pointee (R-i64x128 .written))) l21) ∷ ‵ (froom MHead′.mir l20 0) ∷ ‵ (fdies MHead′.mir l20) ∷ ‵ (froom MAnswerWords′.mir l19 0) ∷ ‵ (fdies MAnswerWords′.mir l19) ∷ ‵ (froom MAnswerWords′.mir l18 0) ∷ ‵ (fdies MAnswerWords′.mir l18) ∷ ‵ (froom tyBool l17 0) ∷ ‵ (fdies tyBool l17) ∷ ‵ (froom tyBool l16 0) ∷ ‵ (fdies tyBool l16) ∷ ‵ (fat fullShare MServo′.mir l15 0 w-37) ∷ ‵ (fdies MServo′.mir l15) ∷ ‵ (froom MServo′.mir l14 0) ∷ ‵ (fdies MServo′.mir l14) ∷ ‵ (froom tyBool l13 0) ∷ ‵ (fdies tyBool l13) ∷ ‵ (fat fullShare MTold′.mir l12 0 w-17) ∷ ‵ (fdies MTold′.mir l12) ∷ ‵ (froom MDelaysWords′.mir l11 0) ∷ ‵ (fdies MDelaysWords′.mir l11) ∷ ‵ (froom MHalvesWords′.mir l10 0) ∷ ‵ (fdies MHalvesWords′.mir l10) ∷ ‵ (froom MStateWords′.mir l9 0) ∷ ‵ (fdies MStateWords′.mir l9) ∷ ‵ (froom MSettingsWords′.mir l8 0) ∷ ‵ (fdies MSettingsWords′.mir l8) ∷ ‵ (fat fullShare (tyRef (named 3) mut (pointee (R-AnswerWords .written))) l7 0 (vptr b7 o7)) ∷ ‵ (fdies (tyRef (named 3) mut (pointee (R-AnswerWords .written))) l7) ∷ ‵ (froom MStamp′.mir l6 0) ∷ ‵ (fdies MStamp′.mir l6) ∷ ‵ (froom (tyInt w16) l5 0) ∷ ‵ (fdies (tyInt w16) l5) ∷ ‵ (froom (tyInt w64) l4 0) ∷ ‵ (fdies (tyInt w64) l4) ∷ ‵ (fat fullShare (tyRef (named 2) mut (pointee (R-Watch .written))) l3 0 (vptr b3 o3)) ∷ ‵ (fdies (tyRef (named 2) mut (pointee (R-Watch .written))) l3) ∷ ‵ (froom (tyRef (named 1) mut (pointee (R-Servo .written))) l2 0) ∷ ‵ (fdies (tyRef (named 1) mut (pointee (R-Servo .written))) l2) ∷ ‵ (froom (tyRef (named 0) mut (pointee (R-UnitWords .written))) l1 0) ∷ ‵ (fdies (tyRef (named 0) mut (pointee (R-UnitWords .written))) l1) ∷ ‵ (froom tyUnit l0 0) ∷ ‵ (fdies tyUnit l0) ∷ []) (runs C Λ En mir′.t-15 (atRet En Post))
-      from-15 u-3 g-4 u-7 g-8 u-11 g-12 u-15 g-16 p-18 w-17 e-19 is-20 left1 u-35 g-36 p-38 w-37 e-39 is-40 =
-          use0 W (raw (C-say 𝓤 H A at-mem run .pre (to-say p-18 w-17 p-38 w-37))) (goes-say p-18 w-17 is-20 p-38 w-37 is-40) $
-          calls-at ! fm (C-say 𝓤 H A at-mem run) known-say (to-say p-18 w-17 p-38 w-37) (and-then ! (load ! (from ! (stop !)) (look ! 39 refl)) (and-then ! (load ! (from ! (stop !)) (look ! 33 refl)) (no-more !))) (λ w-43.
-          use1 W (later (some (λ (p-44 : SAnswerWords.AnswerWords). (‵ ftrue ⊛ ‵ (R-AnswerWords .own p-44 (w-43 ∷ []))) ⊛ raw (ensured 𝓤 H A f-say.ended (f-say.clauses 𝓤 H A at-mem run) tt (p-18, (p-38, tt)) tt p-44)))) (id⊢ 𝓤 _) $ await ! tt $
+      from-18 : (u-3 : Val) (g-4 : Is R-SettingsWords (h1 .settings) (u-3 ∷ [])) (u-7 : Val) (g-8 : Is R-StateWords (h1 .state) (u-7 ∷ [])) (u-11 : Val) (g-12 : Is R-HalvesWords (h1 .halves) (u-11 ∷ [])) (u-15 : Val) (g-16 : Is R-DelaysWords (h1 .delays) (u-15 ∷ [])) (p-18 : STold.Told) (w-17 : Val) (e-19 : p-18 ≡ sentTold (h1 .settings) (h1 .state) (h1 .halves) (h1 .delays) h4 h5 h6) (is-20 : Is R-Told p-18 (w-17 ∷ [])) (left1 : Holds (not (p-18 .barred))) (u-35 : Val) (g-36 : Is R-Servo h2 (u-35 ∷ [])) (p-38 : SServo.Servo) (w-37 : Val) (e-39 : p-38 ≡ servoAfter (h1 .settings) h2 (p-18 .found) (p-18 .steers) (p-18 .wipes)) (is-40 : Is R-Servo p-38 (w-37 ∷ [])) → Sq W (‵ (fobs γ2 (R-Servo .coded .code p-38)) ∷ ‵ (fbor κ2 (Body (mem R-Servo) b2 o2 γ2)) ∷ ‵ (flft κ2 q2) ∷ ‵ (fobs γ1 (R-UnitWords .coded .code (with-UnitWords-3 (with-UnitWords-2 (with-UnitWords-1 h1 (p-18 .state)) (p-18 .halves)) (p-18 .delays)))) ∷ ‵ (fbor κ1 (Body (mem R-UnitWords) b1 o1 γ1)) ∷ ‵ (flft κ1 q1) ∷ ‵ (flft κ7 q7) ∷ ‵ (flft κ3 q3) ∷ ‵ (ftrue) ∷ ‵ (fobs γ7 (R-AnswerWords .coded .code h7)) ∷ ‵ (fbor κ7 (Body (mem R-AnswerWords) b7 o7 γ7)) ∷ ‵ (R-Stamp .own h6 (u6 ∷ [])) ∷ ‵ (R-u16 .own h5 (u5 ∷ [])) ∷ ‵ (R-u64 .own h4 (u4 ∷ [])) ∷ ‵ (fobs γ3 (R-Watch .coded .code h3)) ∷ ‵ (fbor κ3 (Body (mem R-Watch) b3 o3 γ3)) ∷ ‵ (froom (tyRef erased mut (pointee (R-u8x128 .written))) l27 0) ∷ ‵ (fdies (tyRef erased mut (pointee (R-u8x128 .written))) l27) ∷ ‵ (froom (tyRef erased mut (pointee (R-i32x128 .written))) l26 0) ∷ ‵ (fdies (tyRef erased mut (pointee (R-i32x128 .written))) l26) ∷ ‵ (froom (tyRef erased mut (pointee (R-i64x128 .written))) l25 0) ∷ ‵ (fdies (tyRef erased mut (pointee (R-i64x128 .written))) l25) ∷ ‵ (froom MHead′.mir l24 0) ∷ ‵ (fdies MHead′.mir l24) ∷ ‵ (froom MAnswerWords′.mir l23 0) ∷ ‵ (fdies MAnswerWords′.mir l23) ∷ ‵ (froom MAnswerWords′.mir l22 0) ∷ ‵ (fdies MAnswerWords′.mir l22) ∷ ‵ (froom tyBool l21 0) ∷ ‵ (fdies tyBool l21) ∷ ‵ (froom (tyInt w16) l20 0) ∷ ‵ (fdies (tyInt w16) l20) ∷ ‵ (froom (tyInt w8) l19 0) ∷ ‵ (fdies (tyInt w8) l19) ∷ ‵ (fat fullShare MServo′.mir l18 0 w-37) ∷ ‵ (fdies MServo′.mir l18) ∷ ‵ (fat fullShare tyBool l17 0 ((parts-Told p-18 w-17 is-20) .pu8)) ∷ ‵ (fdies tyBool l17) ∷ ‵ (fat fullShare tyBool l16 0 ((parts-Told p-18 w-17 is-20) .pu9)) ∷ ‵ (fdies tyBool l16) ∷ ‵ (fat fullShare MAccepted′.mir l15 0 ((parts-Told p-18 w-17 is-20) .pu3)) ∷ ‵ (fdies MAccepted′.mir l15) ∷ ‵ (froom MServo′.mir l14 0) ∷ ‵ (fdies MServo′.mir l14) ∷ ‵ (froom tyBool l13 0) ∷ ‵ (fdies tyBool l13) ∷ ‵ (fat fullShare MTold′.mir l12 0 (vstruct (ofList ((parts-Told p-18 w-17 is-20) .pu0 ∷ (parts-Told p-18 w-17 is-20) .pu1 ∷ (parts-Told p-18 w-17 is-20) .pu2 ∷ (parts-Told p-18 w-17 is-20) .pu3 ∷ (parts-Told p-18 w-17 is-20) .pu4 ∷ (parts-Told p-18 w-17 is-20) .pu5 ∷ (parts-Told p-18 w-17 is-20) .pu6 ∷ (parts-Told p-18 w-17 is-20) .pu7 ∷ (parts-Told p-18 w-17 is-20) .pu8 ∷ (parts-Told p-18 w-17 is-20) .pu9 ∷ [])))) ∷ ‵ (fdies MTold′.mir l12) ∷ ‵ (froom MDelaysWords′.mir l11 0) ∷ ‵ (fdies MDelaysWords′.mir l11) ∷ ‵ (froom MHalvesWords′.mir l10 0) ∷ ‵ (fdies MHalvesWords′.mir l10) ∷ ‵ (froom MStateWords′.mir l9 0) ∷ ‵ (fdies MStateWords′.mir l9) ∷ ‵ (froom MSettingsWords′.mir l8 0) ∷ ‵ (fdies MSettingsWords′.mir l8) ∷ ‵ (fat fullShare (tyRef (named 3) mut (pointee (R-AnswerWords .written))) l7 0 (vptr b7 o7)) ∷ ‵ (fdies (tyRef (named 3) mut (pointee (R-AnswerWords .written))) l7) ∷ ‵ (froom MStamp′.mir l6 0) ∷ ‵ (fdies MStamp′.mir l6) ∷ ‵ (froom (tyInt w16) l5 0) ∷ ‵ (fdies (tyInt w16) l5) ∷ ‵ (froom (tyInt w64) l4 0) ∷ ‵ (fdies (tyInt w64) l4) ∷ ‵ (fat fullShare (tyRef (named 2) mut (pointee (R-Watch .written))) l3 0 (vptr b3 o3)) ∷ ‵ (fdies (tyRef (named 2) mut (pointee (R-Watch .written))) l3) ∷ ‵ (froom (tyRef (named 1) mut (pointee (R-Servo .written))) l2 0) ∷ ‵ (fdies (tyRef (named 1) mut (pointee (R-Servo .written))) l2) ∷ ‵ (froom (tyRef (named 0) mut (pointee (R-UnitWords .written))) l1 0) ∷ ‵ (fdies (tyRef (named 0) mut (pointee (R-UnitWords .written))) l1) ∷ ‵ (froom tyUnit l0 0) ∷ ‵ (fdies tyUnit l0) ∷ []) (runs C Λ En mir′.t-18 (atRet En Post))
+      from-18 u-3 g-4 u-7 g-8 u-11 g-12 u-15 g-16 p-18 w-17 e-19 is-20 left1 u-35 g-36 p-38 w-37 e-39 is-40 =
+          assigns ! (of-opd ! (load ! (from ! (fld ! {τ = (tyInt w8)} {d = off-Told-6} field-Told-6 (stop !))) (look-in ! 46 (sub ! {ν = name-of MTold′.mir} {τs = tys-of MTold′.mir} 6 {τ = (tyInt w8)} {d = off-Told-6} field-Told-6 (whole !))))) (from ! (stop !)) (init ! 32 refl (lawful-u8 𝓤 H A W .typed (p-18 .code) _ ((parts-Told p-18 w-17 is-20) .pg6) .0)) $
+          assigns ! (of-opd ! (load ! (from ! (fld ! {τ = (tyInt w16)} {d = off-Told-4} field-Told-4 (stop !))) (look-in ! 46 (sub ! {ν = name-of MTold′.mir} {τs = tys-of MTold′.mir} 4 {τ = (tyInt w16)} {d = off-Told-4} field-Told-4 (whole !))))) (from ! (stop !)) (init ! 30 refl (lawful-u16 𝓤 H A W .typed (p-18 .sequence) _ ((parts-Told p-18 w-17 is-20) .pg4) .0)) $
+          use0 W (raw (C-say 𝓤 H A at-mem run .pre (to-say (p-18 .code) ((parts-Told p-18 w-17 is-20) .pu6) (p-18 .sequence) ((parts-Told p-18 w-17 is-20) .pu4) (p-18 .found) ((parts-Told p-18 w-17 is-20) .pu3) (p-18 .steers) ((parts-Told p-18 w-17 is-20) .pu9) p-38 w-37))) (goes-say (p-18 .code) ((parts-Told p-18 w-17 is-20) .pu6) ((parts-Told p-18 w-17 is-20) .pg6) (p-18 .sequence) ((parts-Told p-18 w-17 is-20) .pu4) ((parts-Told p-18 w-17 is-20) .pg4) (p-18 .found) ((parts-Told p-18 w-17 is-20) .pu3) ((parts-Told p-18 w-17 is-20) .pg3) (p-18 .steers) ((parts-Told p-18 w-17 is-20) .pu9) ((parts-Told p-18 w-17 is-20) .pg9) p-38 w-37 is-40) $
+          calls-at ! fm (C-say 𝓤 H A at-mem run) known-say (to-say (p-18 .code) ((parts-Told p-18 w-17 is-20) .pu6) (p-18 .sequence) ((parts-Told p-18 w-17 is-20) .pu4) (p-18 .found) ((parts-Told p-18 w-17 is-20) .pu3) (p-18 .steers) ((parts-Told p-18 w-17 is-20) .pu9) p-38 w-37) (and-then ! (load ! (from ! (stop !)) (look ! 33 refl)) (and-then ! (load ! (from ! (stop !)) (look ! 31 refl)) (and-then ! (load ! (from ! (stop !)) (look ! 41 refl)) (and-then ! (load ! (from ! (stop !)) (look ! 39 refl)) (and-then ! (load ! (from ! (stop !)) (look ! 35 refl)) (no-more !)))))) (λ w-43.
+          use1 W (later (some (λ (p-44 : SAnswerWords.AnswerWords). (‵ ftrue ⊛ ‵ (R-AnswerWords .own p-44 (w-43 ∷ []))) ⊛ raw (ensured 𝓤 H A f-say.ended (f-say.clauses 𝓤 H A at-mem run) tt ((p-18 .code), ((p-18 .sequence), ((p-18 .found), ((p-18 .steers), (p-38, tt))))) tt p-44)))) (id⊢ 𝓤 _) $ await ! tt $
           pick ! (λ p-44.
           split ! $
           move ! (1 ∷ []) $
-          use1 W (raw (fact 𝓤 (p-44 ≡ outputSaid (p-18 .code) (p-18 .sequence) (p-18 .found) (p-18 .steers) p-38))) (ensures-say 𝓤 H A at-mem run p-18 p-38 p-44) $
+          use1 W (raw (fact 𝓤 (p-44 ≡ outputSaid (p-18 .code) (p-18 .sequence) (p-18 .found) (p-18 .steers) p-38))) (ensures-say 𝓤 H A at-mem run (p-18 .code) (p-18 .sequence) (p-18 .found) (p-18 .steers) p-38 p-44) $
           heard ! (p-44 ≡ outputSaid (p-18 .code) (p-18 .sequence) (p-18 .found) (p-18 .steers) p-38) (λ e-45.
           split ! $
           drop ! $
@@ -1313,44 +1313,46 @@ module _ {M : Type 1} (𝓤 : URA M) (H : Heap 𝓤) (A : Atoms 𝓤) (W : Given
           peeks ! R-AnswerWords (Is R-AnswerWords) (shows 𝓤 H A R-AnswerWords) h7 vs-47 (λ g-48.
           rewrite ! 0 (λ (us : List Val). ‵ (R-AnswerWords .own h7 us)) (lone-AnswerWords h7 vs-47 g-48) refl $
           rewrite ! 1 (λ (us : List Val). ‵ (cellAt fullShare (R-AnswerWords .mir) us b7 o7)) (lone-AnswerWords h7 vs-47 g-48) refl $
-          assigns ! (of-opd ! (load ! (from ! (stop !)) (look ! 26 refl))) (from ! (hop ! (look ! 50 refl) (stop !))) (store-raw ! 1 refl (lawful-AnswerWords 𝓤 H A W .typed p-44 _ is-46 .0)) $
+          assigns ! (of-opd ! (load ! (from ! (stop !)) (look ! 26 refl))) (from ! (hop ! (look ! 58 refl) (stop !))) (store-raw ! 1 refl (lawful-AnswerWords 𝓤 H A W .typed p-44 _ is-46 .0)) $
           drop ! $
           owned ! R-AnswerWords (Is R-AnswerWords) (makes-AnswerWords 𝓤 H A W) p-44 _ is-46 $
           move ! (1 ∷ 0 ∷ 2 ∷ 3 ∷ 4 ∷ []) $
           closes ! tt R-AnswerWords p-44 (w-43 ∷ []) b7 o7 $
-          forget ! 48 refl $ forget ! 32 refl $ forget ! 24 refl $
-          from-17 u-3 g-4 u-7 g-8 u-11 g-12 u-15 g-16 p-18 w-17 e-19 is-20 left1 u-35 g-36 p-38 w-37 e-39 is-40 p-44 w-43 e-45 is-46))))))
+          forget ! 56 refl $ forget ! 46 refl $ forget ! 40 refl $ forget ! 38 refl $ forget ! 34 refl $ forget ! 32 refl $ forget ! 30 refl $ forget ! 24 refl $
+          from-22 u-3 g-4 u-7 g-8 u-11 g-12 u-15 g-16 p-18 w-17 e-19 is-20 left1 u-35 g-36 p-38 w-37 e-39 is-40 p-44 w-43 e-45 is-46))))))
 
-      from-13 : (u-3 : Val) (g-4 : Is R-SettingsWords (h1 .settings) (u-3 ∷ [])) (u-7 : Val) (g-8 : Is R-StateWords (h1 .state) (u-7 ∷ [])) (u-11 : Val) (g-12 : Is R-HalvesWords (h1 .halves) (u-11 ∷ [])) (u-15 : Val) (g-16 : Is R-DelaysWords (h1 .delays) (u-15 ∷ [])) (p-18 : STold.Told) (w-17 : Val) (e-19 : p-18 ≡ sentTold (h1 .settings) (h1 .state) (h1 .halves) (h1 .delays) h4 h5 h6) (is-20 : Is R-Told p-18 (w-17 ∷ [])) (left1 : Holds (not (p-18 .barred))) (u-35 : Val) (g-36 : Is R-Servo h2 (u-35 ∷ [])) → Sq W (‵ (fobs γ2 (R-Servo .coded .code h2)) ∷ ‵ (fbor κ2 (Body (mem R-Servo) b2 o2 γ2)) ∷ ‵ (flft κ2 q2) ∷ ‵ (fobs γ1 (R-UnitWords .coded .code (with-UnitWords-3 (with-UnitWords-2 (with-UnitWords-1 h1 (p-18 .state)) (p-18 .halves)) (p-18 .delays)))) ∷ ‵ (fbor κ1 (Body (mem R-UnitWords) b1 o1 γ1)) ∷ ‵ (flft κ1 q1) ∷ ‵ (flft κ7 q7) ∷ ‵ (flft κ3 q3) ∷ ‵ (ftrue) ∷ ‵ (fobs γ7 (R-AnswerWords .coded .code h7)) ∷ ‵ (fbor κ7 (Body (mem R-AnswerWords) b7 o7 γ7)) ∷ ‵ (R-Stamp .own h6 (u6 ∷ [])) ∷ ‵ (R-u16 .own h5 (u5 ∷ [])) ∷ ‵ (R-u64 .own h4 (u4 ∷ [])) ∷ ‵ (fobs γ3 (R-Watch .coded .code h3)) ∷ ‵ (fbor κ3 (Body (mem R-Watch) b3 o3 γ3)) ∷ ‵ (froom (tyRef erased mut (pointee (R-u8x128 .written))) l23 0) ∷ ‵ (fdies (tyRef erased mut (pointee (R-u8x128 .written))) l23) ∷ ‵ (froom (tyRef erased mut (pointee (R-i32x128 .written))) l22 0) ∷ ‵ (fdies (tyRef erased mut (pointee (R-i32x128 .written))) l22) ∷ ‵ (froom (tyRef erased mut (pointee (R-i64x128 .written))) l21 0) ∷ ‵ (fdies (tyRef erased mut (pointee (R-i64x128 .written))) l21) ∷ ‵ (froom MHead′.mir l20 0) ∷ ‵ (fdies MHead′.mir l20) ∷ ‵ (froom MAnswerWords′.mir l19 0) ∷ ‵ (fdies MAnswerWords′.mir l19) ∷ ‵ (froom MAnswerWords′.mir l18 0) ∷ ‵ (fdies MAnswerWords′.mir l18) ∷ ‵ (froom tyBool l17 0) ∷ ‵ (fdies tyBool l17) ∷ ‵ (froom tyBool l16 0) ∷ ‵ (fdies tyBool l16) ∷ ‵ (froom MServo′.mir l15 0) ∷ ‵ (fdies MServo′.mir l15) ∷ ‵ (fat fullShare MServo′.mir l14 0 u-35) ∷ ‵ (fdies MServo′.mir l14) ∷ ‵ (froom tyBool l13 0) ∷ ‵ (fdies tyBool l13) ∷ ‵ (fat fullShare MTold′.mir l12 0 (vstruct (ofList ((parts-Told p-18 w-17 is-20) .pu0 ∷ (parts-Told p-18 w-17 is-20) .pu1 ∷ (parts-Told p-18 w-17 is-20) .pu2 ∷ (parts-Told p-18 w-17 is-20) .pu3 ∷ (parts-Told p-18 w-17 is-20) .pu4 ∷ (parts-Told p-18 w-17 is-20) .pu5 ∷ (parts-Told p-18 w-17 is-20) .pu6 ∷ (parts-Told p-18 w-17 is-20) .pu7 ∷ (parts-Told p-18 w-17 is-20) .pu8 ∷ (parts-Told p-18 w-17 is-20) .pu9 ∷ [])))) ∷ ‵ (fdies MTold′.mir l12) ∷ ‵ (froom MDelaysWords′.mir l11 0) ∷ ‵ (fdies MDelaysWords′.mir l11) ∷ ‵ (froom MHalvesWords′.mir l10 0) ∷ ‵ (fdies MHalvesWords′.mir l10) ∷ ‵ (froom MStateWords′.mir l9 0) ∷ ‵ (fdies MStateWords′.mir l9) ∷ ‵ (fat fullShare MSettingsWords′.mir l8 0 u-3) ∷ ‵ (fdies MSettingsWords′.mir l8) ∷ ‵ (fat fullShare (tyRef (named 3) mut (pointee (R-AnswerWords .written))) l7 0 (vptr b7 o7)) ∷ ‵ (fdies (tyRef (named 3) mut (pointee (R-AnswerWords .written))) l7) ∷ ‵ (froom MStamp′.mir l6 0) ∷ ‵ (fdies MStamp′.mir l6) ∷ ‵ (froom (tyInt w16) l5 0) ∷ ‵ (fdies (tyInt w16) l5) ∷ ‵ (froom (tyInt w64) l4 0) ∷ ‵ (fdies (tyInt w64) l4) ∷ ‵ (fat fullShare (tyRef (named 2) mut (pointee (R-Watch .written))) l3 0 (vptr b3 o3)) ∷ ‵ (fdies (tyRef (named 2) mut (pointee (R-Watch .written))) l3) ∷ ‵ (fat fullShare (tyRef (named 1) mut (pointee (R-Servo .written))) l2 0 (vptr b2 o2)) ∷ ‵ (fdies (tyRef (named 1) mut (pointee (R-Servo .written))) l2) ∷ ‵ (froom (tyRef (named 0) mut (pointee (R-UnitWords .written))) l1 0) ∷ ‵ (fdies (tyRef (named 0) mut (pointee (R-UnitWords .written))) l1) ∷ ‵ (froom tyUnit l0 0) ∷ ‵ (fdies tyUnit l0) ∷ []) (runs C Λ En mir′.t-13 (atRet En Post))
+      from-13 : (u-3 : Val) (g-4 : Is R-SettingsWords (h1 .settings) (u-3 ∷ [])) (u-7 : Val) (g-8 : Is R-StateWords (h1 .state) (u-7 ∷ [])) (u-11 : Val) (g-12 : Is R-HalvesWords (h1 .halves) (u-11 ∷ [])) (u-15 : Val) (g-16 : Is R-DelaysWords (h1 .delays) (u-15 ∷ [])) (p-18 : STold.Told) (w-17 : Val) (e-19 : p-18 ≡ sentTold (h1 .settings) (h1 .state) (h1 .halves) (h1 .delays) h4 h5 h6) (is-20 : Is R-Told p-18 (w-17 ∷ [])) (left1 : Holds (not (p-18 .barred))) (u-35 : Val) (g-36 : Is R-Servo h2 (u-35 ∷ [])) → Sq W (‵ (fobs γ2 (R-Servo .coded .code h2)) ∷ ‵ (fbor κ2 (Body (mem R-Servo) b2 o2 γ2)) ∷ ‵ (flft κ2 q2) ∷ ‵ (fobs γ1 (R-UnitWords .coded .code (with-UnitWords-3 (with-UnitWords-2 (with-UnitWords-1 h1 (p-18 .state)) (p-18 .halves)) (p-18 .delays)))) ∷ ‵ (fbor κ1 (Body (mem R-UnitWords) b1 o1 γ1)) ∷ ‵ (flft κ1 q1) ∷ ‵ (flft κ7 q7) ∷ ‵ (flft κ3 q3) ∷ ‵ (ftrue) ∷ ‵ (fobs γ7 (R-AnswerWords .coded .code h7)) ∷ ‵ (fbor κ7 (Body (mem R-AnswerWords) b7 o7 γ7)) ∷ ‵ (R-Stamp .own h6 (u6 ∷ [])) ∷ ‵ (R-u16 .own h5 (u5 ∷ [])) ∷ ‵ (R-u64 .own h4 (u4 ∷ [])) ∷ ‵ (fobs γ3 (R-Watch .coded .code h3)) ∷ ‵ (fbor κ3 (Body (mem R-Watch) b3 o3 γ3)) ∷ ‵ (froom (tyRef erased mut (pointee (R-u8x128 .written))) l27 0) ∷ ‵ (fdies (tyRef erased mut (pointee (R-u8x128 .written))) l27) ∷ ‵ (froom (tyRef erased mut (pointee (R-i32x128 .written))) l26 0) ∷ ‵ (fdies (tyRef erased mut (pointee (R-i32x128 .written))) l26) ∷ ‵ (froom (tyRef erased mut (pointee (R-i64x128 .written))) l25 0) ∷ ‵ (fdies (tyRef erased mut (pointee (R-i64x128 .written))) l25) ∷ ‵ (froom MHead′.mir l24 0) ∷ ‵ (fdies MHead′.mir l24) ∷ ‵ (froom MAnswerWords′.mir l23 0) ∷ ‵ (fdies MAnswerWords′.mir l23) ∷ ‵ (froom MAnswerWords′.mir l22 0) ∷ ‵ (fdies MAnswerWords′.mir l22) ∷ ‵ (froom tyBool l21 0) ∷ ‵ (fdies tyBool l21) ∷ ‵ (froom (tyInt w16) l20 0) ∷ ‵ (fdies (tyInt w16) l20) ∷ ‵ (froom (tyInt w8) l19 0) ∷ ‵ (fdies (tyInt w8) l19) ∷ ‵ (froom MServo′.mir l18 0) ∷ ‵ (fdies MServo′.mir l18) ∷ ‵ (froom tyBool l17 0) ∷ ‵ (fdies tyBool l17) ∷ ‵ (froom tyBool l16 0) ∷ ‵ (fdies tyBool l16) ∷ ‵ (froom MAccepted′.mir l15 0) ∷ ‵ (fdies MAccepted′.mir l15) ∷ ‵ (fat fullShare MServo′.mir l14 0 u-35) ∷ ‵ (fdies MServo′.mir l14) ∷ ‵ (froom tyBool l13 0) ∷ ‵ (fdies tyBool l13) ∷ ‵ (fat fullShare MTold′.mir l12 0 (vstruct (ofList ((parts-Told p-18 w-17 is-20) .pu0 ∷ (parts-Told p-18 w-17 is-20) .pu1 ∷ (parts-Told p-18 w-17 is-20) .pu2 ∷ (parts-Told p-18 w-17 is-20) .pu3 ∷ (parts-Told p-18 w-17 is-20) .pu4 ∷ (parts-Told p-18 w-17 is-20) .pu5 ∷ (parts-Told p-18 w-17 is-20) .pu6 ∷ (parts-Told p-18 w-17 is-20) .pu7 ∷ (parts-Told p-18 w-17 is-20) .pu8 ∷ (parts-Told p-18 w-17 is-20) .pu9 ∷ [])))) ∷ ‵ (fdies MTold′.mir l12) ∷ ‵ (froom MDelaysWords′.mir l11 0) ∷ ‵ (fdies MDelaysWords′.mir l11) ∷ ‵ (froom MHalvesWords′.mir l10 0) ∷ ‵ (fdies MHalvesWords′.mir l10) ∷ ‵ (froom MStateWords′.mir l9 0) ∷ ‵ (fdies MStateWords′.mir l9) ∷ ‵ (fat fullShare MSettingsWords′.mir l8 0 u-3) ∷ ‵ (fdies MSettingsWords′.mir l8) ∷ ‵ (fat fullShare (tyRef (named 3) mut (pointee (R-AnswerWords .written))) l7 0 (vptr b7 o7)) ∷ ‵ (fdies (tyRef (named 3) mut (pointee (R-AnswerWords .written))) l7) ∷ ‵ (froom MStamp′.mir l6 0) ∷ ‵ (fdies MStamp′.mir l6) ∷ ‵ (froom (tyInt w16) l5 0) ∷ ‵ (fdies (tyInt w16) l5) ∷ ‵ (froom (tyInt w64) l4 0) ∷ ‵ (fdies (tyInt w64) l4) ∷ ‵ (fat fullShare (tyRef (named 2) mut (pointee (R-Watch .written))) l3 0 (vptr b3 o3)) ∷ ‵ (fdies (tyRef (named 2) mut (pointee (R-Watch .written))) l3) ∷ ‵ (fat fullShare (tyRef (named 1) mut (pointee (R-Servo .written))) l2 0 (vptr b2 o2)) ∷ ‵ (fdies (tyRef (named 1) mut (pointee (R-Servo .written))) l2) ∷ ‵ (froom (tyRef (named 0) mut (pointee (R-UnitWords .written))) l1 0) ∷ ‵ (fdies (tyRef (named 0) mut (pointee (R-UnitWords .written))) l1) ∷ ‵ (froom tyUnit l0 0) ∷ ‵ (fdies tyUnit l0) ∷ []) (runs C Λ En mir′.t-13 (atRet En Post))
       from-13 u-3 g-4 u-7 g-8 u-11 g-12 u-15 g-16 p-18 w-17 e-19 is-20 left1 u-35 g-36 =
-          rewrite ! 38 (λ (u : Val). ‵ (fat fullShare MTold′.mir l12 0 u)) (sym (parts-Told p-18 w-17 is-20 .whole-is)) refl $
-          use0 W (raw (C-steer 𝓤 H A at-mem run .pre (to-steer h2 u-35 (h1 .settings) u-3 p-18 w-17))) (goes-steer h2 u-35 g-36 (h1 .settings) u-3 g-4 p-18 w-17 is-20) $
-          calls-at ! fm (C-steer 𝓤 H A at-mem run) known-steer (to-steer h2 u-35 (h1 .settings) u-3 p-18 w-17) (and-then ! (load ! (from ! (stop !)) (look ! 35 refl)) (and-then ! (load ! (from ! (stop !)) (look ! 47 refl)) (and-then ! (load ! (from ! (stop !)) (look ! 39 refl)) (no-more !)))) (λ w-37.
-          use1 W (later (some (λ (p-38 : SServo.Servo). (‵ ftrue ⊛ ‵ (R-Servo .own p-38 (w-37 ∷ []))) ⊛ raw (ensured 𝓤 H A f-steer.ended (f-steer.clauses 𝓤 H A at-mem run) tt (h2, ((h1 .settings), (p-18, tt))) tt p-38)))) (id⊢ 𝓤 _) $ await ! tt $
+          assigns ! (of-opd ! (load ! (from ! (fld ! {τ = MAccepted′.mir} {d = off-Told-3} field-Told-3 (stop !))) (look-in ! 46 (sub ! {ν = name-of MTold′.mir} {τs = tys-of MTold′.mir} 3 {τ = MAccepted′.mir} {d = off-Told-3} field-Told-3 (whole !))))) (from ! (stop !)) (init ! 40 refl (lawful-Accepted 𝓤 H A W .typed (p-18 .found) _ ((parts-Told p-18 w-17 is-20) .pg3) .0)) $
+          assigns ! (of-opd ! (load ! (from ! (fld ! {τ = tyBool} {d = off-Told-9} field-Told-9 (stop !))) (look-in ! 46 (sub ! {ν = name-of MTold′.mir} {τs = tys-of MTold′.mir} 9 {τ = tyBool} {d = off-Told-9} field-Told-9 (whole !))))) (from ! (stop !)) (init ! 38 refl (lawful-bool 𝓤 H A W .typed (p-18 .steers) _ ((parts-Told p-18 w-17 is-20) .pg9) .0)) $
+          assigns ! (of-opd ! (load ! (from ! (fld ! {τ = tyBool} {d = off-Told-8} field-Told-8 (stop !))) (look-in ! 46 (sub ! {ν = name-of MTold′.mir} {τs = tys-of MTold′.mir} 8 {τ = tyBool} {d = off-Told-8} field-Told-8 (whole !))))) (from ! (stop !)) (init ! 36 refl (lawful-bool 𝓤 H A W .typed (p-18 .wipes) _ ((parts-Told p-18 w-17 is-20) .pg8) .0)) $
+          use0 W (raw (C-steer 𝓤 H A at-mem run .pre (to-steer h2 u-35 (h1 .settings) u-3 (p-18 .found) ((parts-Told p-18 w-17 is-20) .pu3) (p-18 .steers) ((parts-Told p-18 w-17 is-20) .pu9) (p-18 .wipes) ((parts-Told p-18 w-17 is-20) .pu8)))) (goes-steer h2 u-35 g-36 (h1 .settings) u-3 g-4 (p-18 .found) ((parts-Told p-18 w-17 is-20) .pu3) ((parts-Told p-18 w-17 is-20) .pg3) (p-18 .steers) ((parts-Told p-18 w-17 is-20) .pu9) ((parts-Told p-18 w-17 is-20) .pg9) (p-18 .wipes) ((parts-Told p-18 w-17 is-20) .pu8) ((parts-Told p-18 w-17 is-20) .pg8)) $
+          calls-at ! fm (C-steer 𝓤 H A at-mem run) known-steer (to-steer h2 u-35 (h1 .settings) u-3 (p-18 .found) ((parts-Told p-18 w-17 is-20) .pu3) (p-18 .steers) ((parts-Told p-18 w-17 is-20) .pu9) (p-18 .wipes) ((parts-Told p-18 w-17 is-20) .pu8)) (and-then ! (load ! (from ! (stop !)) (look ! 43 refl)) (and-then ! (load ! (from ! (stop !)) (look ! 55 refl)) (and-then ! (load ! (from ! (stop !)) (look ! 41 refl)) (and-then ! (load ! (from ! (stop !)) (look ! 39 refl)) (and-then ! (load ! (from ! (stop !)) (look ! 37 refl)) (no-more !)))))) (λ w-37.
+          use1 W (later (some (λ (p-38 : SServo.Servo). (‵ ftrue ⊛ ‵ (R-Servo .own p-38 (w-37 ∷ []))) ⊛ raw (ensured 𝓤 H A f-steer.ended (f-steer.clauses 𝓤 H A at-mem run) tt (h2, ((h1 .settings), ((p-18 .found), ((p-18 .steers), ((p-18 .wipes), tt))))) tt p-38)))) (id⊢ 𝓤 _) $ await ! tt $
           pick ! (λ p-38.
           split ! $
           move ! (1 ∷ []) $
-          use1 W (raw (fact 𝓤 (p-38 ≡ servoAfter (h1 .settings) h2 (p-18 .found) (p-18 .steers) (p-18 .wipes)))) (ensures-steer 𝓤 H A at-mem run h2 (h1 .settings) p-18 p-38) $
+          use1 W (raw (fact 𝓤 (p-38 ≡ servoAfter (h1 .settings) h2 (p-18 .found) (p-18 .steers) (p-18 .wipes)))) (ensures-steer 𝓤 H A at-mem run h2 (h1 .settings) (p-18 .found) (p-18 .steers) (p-18 .wipes) p-38) $
           heard ! (p-38 ≡ servoAfter (h1 .settings) h2 (p-18 .found) (p-18 .steers) (p-18 .wipes)) (λ e-39.
           split ! $
           drop ! $
           peeks ! R-Servo (Is R-Servo) (shows 𝓤 H A R-Servo) p-38 (w-37 ∷ []) (λ is-40.
           drop ! $
-          land ! (from ! (stop !)) (init ! 32 refl (lawful-Servo 𝓤 H A W .typed p-38 _ is-40 .0)) $
+          land ! (from ! (stop !)) (init ! 34 refl (lawful-Servo 𝓤 H A W .typed p-38 _ is-40 .0)) $
           opens ! tt R-Servo {h = h2} b2 o2 (λ vs-41.
           move ! (1 ∷ []) $
           peeks ! R-Servo (Is R-Servo) (shows 𝓤 H A R-Servo) h2 vs-41 (λ g-42.
           rewrite ! 0 (λ (us : List Val). ‵ (R-Servo .own h2 us)) (lone-Servo h2 vs-41 g-42) refl $
           rewrite ! 1 (λ (us : List Val). ‵ (cellAt fullShare (R-Servo .mir) us b2 o2)) (lone-Servo h2 vs-41 g-42) refl $
-          assigns ! (of-opd ! (load ! (from ! (stop !)) (look ! 34 refl))) (from ! (hop ! (look ! 60 refl) (stop !))) (store-raw ! 1 refl (lawful-Servo 𝓤 H A W .typed p-38 _ is-40 .0)) $
+          assigns ! (of-opd ! (load ! (from ! (stop !)) (look ! 36 refl))) (from ! (hop ! (look ! 68 refl) (stop !))) (store-raw ! 1 refl (lawful-Servo 𝓤 H A W .typed p-38 _ is-40 .0)) $
           drop ! $
           owned ! R-Servo (Is R-Servo) (makes-Servo 𝓤 H A W) p-38 _ is-40 $
           move ! (1 ∷ 0 ∷ 2 ∷ 3 ∷ 4 ∷ []) $
           closes ! tt R-Servo p-38 (w-37 ∷ []) b2 o2 $
-          forget ! 58 refl $ forget ! 46 refl $ forget ! 34 refl $
-          from-15 u-3 g-4 u-7 g-8 u-11 g-12 u-15 g-16 p-18 w-17 e-19 is-20 left1 u-35 g-36 p-38 w-37 e-39 is-40))))))
+          forget ! 66 refl $ forget ! 54 refl $ forget ! 42 refl $
+          from-18 u-3 g-4 u-7 g-8 u-11 g-12 u-15 g-16 p-18 w-17 e-19 is-20 left1 u-35 g-36 p-38 w-37 e-39 is-40))))))
 
-      from-12 : (u-3 : Val) (g-4 : Is R-SettingsWords (h1 .settings) (u-3 ∷ [])) (u-7 : Val) (g-8 : Is R-StateWords (h1 .state) (u-7 ∷ [])) (u-11 : Val) (g-12 : Is R-HalvesWords (h1 .halves) (u-11 ∷ [])) (u-15 : Val) (g-16 : Is R-DelaysWords (h1 .delays) (u-15 ∷ [])) (p-18 : STold.Told) (w-17 : Val) (e-19 : p-18 ≡ sentTold (h1 .settings) (h1 .state) (h1 .halves) (h1 .delays) h4 h5 h6) (is-20 : Is R-Told p-18 (w-17 ∷ [])) (left1 : Holds (not (p-18 .barred))) → Sq W (‵ (fobs γ1 (R-UnitWords .coded .code (with-UnitWords-3 (with-UnitWords-2 (with-UnitWords-1 h1 (p-18 .state)) (p-18 .halves)) (p-18 .delays)))) ∷ ‵ (fbor κ1 (Body (mem R-UnitWords) b1 o1 γ1)) ∷ ‵ (flft κ1 q1) ∷ ‵ (flft κ7 q7) ∷ ‵ (flft κ3 q3) ∷ ‵ (flft κ2 q2) ∷ ‵ (ftrue) ∷ ‵ (fobs γ7 (R-AnswerWords .coded .code h7)) ∷ ‵ (fbor κ7 (Body (mem R-AnswerWords) b7 o7 γ7)) ∷ ‵ (R-Stamp .own h6 (u6 ∷ [])) ∷ ‵ (R-u16 .own h5 (u5 ∷ [])) ∷ ‵ (R-u64 .own h4 (u4 ∷ [])) ∷ ‵ (fobs γ3 (R-Watch .coded .code h3)) ∷ ‵ (fbor κ3 (Body (mem R-Watch) b3 o3 γ3)) ∷ ‵ (fobs γ2 (R-Servo .coded .code h2)) ∷ ‵ (fbor κ2 (Body (mem R-Servo) b2 o2 γ2)) ∷ ‵ (froom (tyRef erased mut (pointee (R-u8x128 .written))) l23 0) ∷ ‵ (fdies (tyRef erased mut (pointee (R-u8x128 .written))) l23) ∷ ‵ (froom (tyRef erased mut (pointee (R-i32x128 .written))) l22 0) ∷ ‵ (fdies (tyRef erased mut (pointee (R-i32x128 .written))) l22) ∷ ‵ (froom (tyRef erased mut (pointee (R-i64x128 .written))) l21 0) ∷ ‵ (fdies (tyRef erased mut (pointee (R-i64x128 .written))) l21) ∷ ‵ (froom MHead′.mir l20 0) ∷ ‵ (fdies MHead′.mir l20) ∷ ‵ (froom MAnswerWords′.mir l19 0) ∷ ‵ (fdies MAnswerWords′.mir l19) ∷ ‵ (froom MAnswerWords′.mir l18 0) ∷ ‵ (fdies MAnswerWords′.mir l18) ∷ ‵ (froom tyBool l17 0) ∷ ‵ (fdies tyBool l17) ∷ ‵ (froom tyBool l16 0) ∷ ‵ (fdies tyBool l16) ∷ ‵ (froom MServo′.mir l15 0) ∷ ‵ (fdies MServo′.mir l15) ∷ ‵ (froom MServo′.mir l14 0) ∷ ‵ (fdies MServo′.mir l14) ∷ ‵ (froom tyBool l13 0) ∷ ‵ (fdies tyBool l13) ∷ ‵ (fat fullShare MTold′.mir l12 0 (vstruct (ofList ((parts-Told p-18 w-17 is-20) .pu0 ∷ (parts-Told p-18 w-17 is-20) .pu1 ∷ (parts-Told p-18 w-17 is-20) .pu2 ∷ (parts-Told p-18 w-17 is-20) .pu3 ∷ (parts-Told p-18 w-17 is-20) .pu4 ∷ (parts-Told p-18 w-17 is-20) .pu5 ∷ (parts-Told p-18 w-17 is-20) .pu6 ∷ (parts-Told p-18 w-17 is-20) .pu7 ∷ (parts-Told p-18 w-17 is-20) .pu8 ∷ (parts-Told p-18 w-17 is-20) .pu9 ∷ [])))) ∷ ‵ (fdies MTold′.mir l12) ∷ ‵ (froom MDelaysWords′.mir l11 0) ∷ ‵ (fdies MDelaysWords′.mir l11) ∷ ‵ (froom MHalvesWords′.mir l10 0) ∷ ‵ (fdies MHalvesWords′.mir l10) ∷ ‵ (froom MStateWords′.mir l9 0) ∷ ‵ (fdies MStateWords′.mir l9) ∷ ‵ (fat fullShare MSettingsWords′.mir l8 0 u-3) ∷ ‵ (fdies MSettingsWords′.mir l8) ∷ ‵ (fat fullShare (tyRef (named 3) mut (pointee (R-AnswerWords .written))) l7 0 (vptr b7 o7)) ∷ ‵ (fdies (tyRef (named 3) mut (pointee (R-AnswerWords .written))) l7) ∷ ‵ (froom MStamp′.mir l6 0) ∷ ‵ (fdies MStamp′.mir l6) ∷ ‵ (froom (tyInt w16) l5 0) ∷ ‵ (fdies (tyInt w16) l5) ∷ ‵ (froom (tyInt w64) l4 0) ∷ ‵ (fdies (tyInt w64) l4) ∷ ‵ (fat fullShare (tyRef (named 2) mut (pointee (R-Watch .written))) l3 0 (vptr b3 o3)) ∷ ‵ (fdies (tyRef (named 2) mut (pointee (R-Watch .written))) l3) ∷ ‵ (fat fullShare (tyRef (named 1) mut (pointee (R-Servo .written))) l2 0 (vptr b2 o2)) ∷ ‵ (fdies (tyRef (named 1) mut (pointee (R-Servo .written))) l2) ∷ ‵ (froom (tyRef (named 0) mut (pointee (R-UnitWords .written))) l1 0) ∷ ‵ (fdies (tyRef (named 0) mut (pointee (R-UnitWords .written))) l1) ∷ ‵ (froom tyUnit l0 0) ∷ ‵ (fdies tyUnit l0) ∷ []) (runs C Λ En mir′.t-12 (atRet En Post))
+      from-12 : (u-3 : Val) (g-4 : Is R-SettingsWords (h1 .settings) (u-3 ∷ [])) (u-7 : Val) (g-8 : Is R-StateWords (h1 .state) (u-7 ∷ [])) (u-11 : Val) (g-12 : Is R-HalvesWords (h1 .halves) (u-11 ∷ [])) (u-15 : Val) (g-16 : Is R-DelaysWords (h1 .delays) (u-15 ∷ [])) (p-18 : STold.Told) (w-17 : Val) (e-19 : p-18 ≡ sentTold (h1 .settings) (h1 .state) (h1 .halves) (h1 .delays) h4 h5 h6) (is-20 : Is R-Told p-18 (w-17 ∷ [])) (left1 : Holds (not (p-18 .barred))) → Sq W (‵ (fobs γ1 (R-UnitWords .coded .code (with-UnitWords-3 (with-UnitWords-2 (with-UnitWords-1 h1 (p-18 .state)) (p-18 .halves)) (p-18 .delays)))) ∷ ‵ (fbor κ1 (Body (mem R-UnitWords) b1 o1 γ1)) ∷ ‵ (flft κ1 q1) ∷ ‵ (flft κ7 q7) ∷ ‵ (flft κ3 q3) ∷ ‵ (flft κ2 q2) ∷ ‵ (ftrue) ∷ ‵ (fobs γ7 (R-AnswerWords .coded .code h7)) ∷ ‵ (fbor κ7 (Body (mem R-AnswerWords) b7 o7 γ7)) ∷ ‵ (R-Stamp .own h6 (u6 ∷ [])) ∷ ‵ (R-u16 .own h5 (u5 ∷ [])) ∷ ‵ (R-u64 .own h4 (u4 ∷ [])) ∷ ‵ (fobs γ3 (R-Watch .coded .code h3)) ∷ ‵ (fbor κ3 (Body (mem R-Watch) b3 o3 γ3)) ∷ ‵ (fobs γ2 (R-Servo .coded .code h2)) ∷ ‵ (fbor κ2 (Body (mem R-Servo) b2 o2 γ2)) ∷ ‵ (froom (tyRef erased mut (pointee (R-u8x128 .written))) l27 0) ∷ ‵ (fdies (tyRef erased mut (pointee (R-u8x128 .written))) l27) ∷ ‵ (froom (tyRef erased mut (pointee (R-i32x128 .written))) l26 0) ∷ ‵ (fdies (tyRef erased mut (pointee (R-i32x128 .written))) l26) ∷ ‵ (froom (tyRef erased mut (pointee (R-i64x128 .written))) l25 0) ∷ ‵ (fdies (tyRef erased mut (pointee (R-i64x128 .written))) l25) ∷ ‵ (froom MHead′.mir l24 0) ∷ ‵ (fdies MHead′.mir l24) ∷ ‵ (froom MAnswerWords′.mir l23 0) ∷ ‵ (fdies MAnswerWords′.mir l23) ∷ ‵ (froom MAnswerWords′.mir l22 0) ∷ ‵ (fdies MAnswerWords′.mir l22) ∷ ‵ (froom tyBool l21 0) ∷ ‵ (fdies tyBool l21) ∷ ‵ (froom (tyInt w16) l20 0) ∷ ‵ (fdies (tyInt w16) l20) ∷ ‵ (froom (tyInt w8) l19 0) ∷ ‵ (fdies (tyInt w8) l19) ∷ ‵ (froom MServo′.mir l18 0) ∷ ‵ (fdies MServo′.mir l18) ∷ ‵ (froom tyBool l17 0) ∷ ‵ (fdies tyBool l17) ∷ ‵ (froom tyBool l16 0) ∷ ‵ (fdies tyBool l16) ∷ ‵ (froom MAccepted′.mir l15 0) ∷ ‵ (fdies MAccepted′.mir l15) ∷ ‵ (froom MServo′.mir l14 0) ∷ ‵ (fdies MServo′.mir l14) ∷ ‵ (froom tyBool l13 0) ∷ ‵ (fdies tyBool l13) ∷ ‵ (fat fullShare MTold′.mir l12 0 (vstruct (ofList ((parts-Told p-18 w-17 is-20) .pu0 ∷ (parts-Told p-18 w-17 is-20) .pu1 ∷ (parts-Told p-18 w-17 is-20) .pu2 ∷ (parts-Told p-18 w-17 is-20) .pu3 ∷ (parts-Told p-18 w-17 is-20) .pu4 ∷ (parts-Told p-18 w-17 is-20) .pu5 ∷ (parts-Told p-18 w-17 is-20) .pu6 ∷ (parts-Told p-18 w-17 is-20) .pu7 ∷ (parts-Told p-18 w-17 is-20) .pu8 ∷ (parts-Told p-18 w-17 is-20) .pu9 ∷ [])))) ∷ ‵ (fdies MTold′.mir l12) ∷ ‵ (froom MDelaysWords′.mir l11 0) ∷ ‵ (fdies MDelaysWords′.mir l11) ∷ ‵ (froom MHalvesWords′.mir l10 0) ∷ ‵ (fdies MHalvesWords′.mir l10) ∷ ‵ (froom MStateWords′.mir l9 0) ∷ ‵ (fdies MStateWords′.mir l9) ∷ ‵ (fat fullShare MSettingsWords′.mir l8 0 u-3) ∷ ‵ (fdies MSettingsWords′.mir l8) ∷ ‵ (fat fullShare (tyRef (named 3) mut (pointee (R-AnswerWords .written))) l7 0 (vptr b7 o7)) ∷ ‵ (fdies (tyRef (named 3) mut (pointee (R-AnswerWords .written))) l7) ∷ ‵ (froom MStamp′.mir l6 0) ∷ ‵ (fdies MStamp′.mir l6) ∷ ‵ (froom (tyInt w16) l5 0) ∷ ‵ (fdies (tyInt w16) l5) ∷ ‵ (froom (tyInt w64) l4 0) ∷ ‵ (fdies (tyInt w64) l4) ∷ ‵ (fat fullShare (tyRef (named 2) mut (pointee (R-Watch .written))) l3 0 (vptr b3 o3)) ∷ ‵ (fdies (tyRef (named 2) mut (pointee (R-Watch .written))) l3) ∷ ‵ (fat fullShare (tyRef (named 1) mut (pointee (R-Servo .written))) l2 0 (vptr b2 o2)) ∷ ‵ (fdies (tyRef (named 1) mut (pointee (R-Servo .written))) l2) ∷ ‵ (froom (tyRef (named 0) mut (pointee (R-UnitWords .written))) l1 0) ∷ ‵ (fdies (tyRef (named 0) mut (pointee (R-UnitWords .written))) l1) ∷ ‵ (froom tyUnit l0 0) ∷ ‵ (fdies tyUnit l0) ∷ []) (runs C Λ En mir′.t-12 (atRet En Post))
       from-12 u-3 g-4 u-7 g-8 u-11 g-12 u-15 g-16 p-18 w-17 e-19 is-20 left1 =
           move ! (14 ∷ 15 ∷ 5 ∷ []) $
           opens ! tt R-Servo {h = h2} b2 o2 (λ vs-33.
@@ -1358,12 +1360,12 @@ module _ {M : Type 1} (𝓤 : URA M) (H : Heap 𝓤) (A : Atoms 𝓤) (W : Given
           peeks ! R-Servo (Is R-Servo) (shows 𝓤 H A R-Servo) h2 vs-33 (λ g-34.
           rewrite ! 0 (λ (us : List Val). ‵ (R-Servo .own h2 us)) (lone-Servo h2 vs-33 g-34) refl $
           rewrite ! 1 (λ (us : List Val). ‵ (cellAt fullShare (R-Servo .mir) us b2 o2)) (lone-Servo h2 vs-33 g-34) refl $
-          assigns ! (of-opd ! (load ! (from ! (hop ! (look ! 60 refl) (stop !))) (look-raw ! 1 refl))) (from ! (stop !)) (init ! 36 refl (lawful-Servo 𝓤 H A W .typed h2 _ (one-Servo h2 vs-33 g-34) .0)) $
+          assigns ! (of-opd ! (load ! (from ! (hop ! (look ! 68 refl) (stop !))) (look-raw ! 1 refl))) (from ! (stop !)) (init ! 44 refl (lawful-Servo 𝓤 H A W .typed h2 _ (one-Servo h2 vs-33 g-34) .0)) $
           move ! (1 ∷ 0 ∷ 2 ∷ 3 ∷ 4 ∷ []) $
           closes ! tt R-Servo h2 ((only vs-33) ∷ []) b2 o2 $
           from-13 u-3 g-4 u-7 g-8 u-11 g-12 u-15 g-16 p-18 w-17 e-19 is-20 left1 (only vs-33) (one-Servo h2 vs-33 g-34)))
 
-      from-11 : (u-3 : Val) (g-4 : Is R-SettingsWords (h1 .settings) (u-3 ∷ [])) (u-7 : Val) (g-8 : Is R-StateWords (h1 .state) (u-7 ∷ [])) (u-11 : Val) (g-12 : Is R-HalvesWords (h1 .halves) (u-11 ∷ [])) (u-15 : Val) (g-16 : Is R-DelaysWords (h1 .delays) (u-15 ∷ [])) (p-18 : STold.Told) (w-17 : Val) (e-19 : p-18 ≡ sentTold (h1 .settings) (h1 .state) (h1 .halves) (h1 .delays) h4 h5 h6) (is-20 : Is R-Told p-18 (w-17 ∷ [])) (left1 : Holds (not (p-18 .barred))) → Sq W (‵ (fobs γ1 (R-UnitWords .coded .code (with-UnitWords-2 (with-UnitWords-1 h1 (p-18 .state)) (p-18 .halves)))) ∷ ‵ (fbor κ1 (Body (mem R-UnitWords) b1 o1 γ1)) ∷ ‵ (flft κ1 q1) ∷ ‵ (flft κ7 q7) ∷ ‵ (flft κ3 q3) ∷ ‵ (flft κ2 q2) ∷ ‵ (ftrue) ∷ ‵ (fobs γ7 (R-AnswerWords .coded .code h7)) ∷ ‵ (fbor κ7 (Body (mem R-AnswerWords) b7 o7 γ7)) ∷ ‵ (R-Stamp .own h6 (u6 ∷ [])) ∷ ‵ (R-u16 .own h5 (u5 ∷ [])) ∷ ‵ (R-u64 .own h4 (u4 ∷ [])) ∷ ‵ (fobs γ3 (R-Watch .coded .code h3)) ∷ ‵ (fbor κ3 (Body (mem R-Watch) b3 o3 γ3)) ∷ ‵ (fobs γ2 (R-Servo .coded .code h2)) ∷ ‵ (fbor κ2 (Body (mem R-Servo) b2 o2 γ2)) ∷ ‵ (froom (tyRef erased mut (pointee (R-u8x128 .written))) l23 0) ∷ ‵ (fdies (tyRef erased mut (pointee (R-u8x128 .written))) l23) ∷ ‵ (froom (tyRef erased mut (pointee (R-i32x128 .written))) l22 0) ∷ ‵ (fdies (tyRef erased mut (pointee (R-i32x128 .written))) l22) ∷ ‵ (froom (tyRef erased mut (pointee (R-i64x128 .written))) l21 0) ∷ ‵ (fdies (tyRef erased mut (pointee (R-i64x128 .written))) l21) ∷ ‵ (froom MHead′.mir l20 0) ∷ ‵ (fdies MHead′.mir l20) ∷ ‵ (froom MAnswerWords′.mir l19 0) ∷ ‵ (fdies MAnswerWords′.mir l19) ∷ ‵ (froom MAnswerWords′.mir l18 0) ∷ ‵ (fdies MAnswerWords′.mir l18) ∷ ‵ (froom tyBool l17 0) ∷ ‵ (fdies tyBool l17) ∷ ‵ (froom tyBool l16 0) ∷ ‵ (fdies tyBool l16) ∷ ‵ (froom MServo′.mir l15 0) ∷ ‵ (fdies MServo′.mir l15) ∷ ‵ (froom MServo′.mir l14 0) ∷ ‵ (fdies MServo′.mir l14) ∷ ‵ (froom tyBool l13 0) ∷ ‵ (fdies tyBool l13) ∷ ‵ (fat fullShare MTold′.mir l12 0 (vstruct (ofList ((parts-Told p-18 w-17 is-20) .pu0 ∷ (parts-Told p-18 w-17 is-20) .pu1 ∷ (parts-Told p-18 w-17 is-20) .pu2 ∷ (parts-Told p-18 w-17 is-20) .pu3 ∷ (parts-Told p-18 w-17 is-20) .pu4 ∷ (parts-Told p-18 w-17 is-20) .pu5 ∷ (parts-Told p-18 w-17 is-20) .pu6 ∷ (parts-Told p-18 w-17 is-20) .pu7 ∷ (parts-Told p-18 w-17 is-20) .pu8 ∷ (parts-Told p-18 w-17 is-20) .pu9 ∷ [])))) ∷ ‵ (fdies MTold′.mir l12) ∷ ‵ (froom MDelaysWords′.mir l11 0) ∷ ‵ (fdies MDelaysWords′.mir l11) ∷ ‵ (froom MHalvesWords′.mir l10 0) ∷ ‵ (fdies MHalvesWords′.mir l10) ∷ ‵ (froom MStateWords′.mir l9 0) ∷ ‵ (fdies MStateWords′.mir l9) ∷ ‵ (fat fullShare MSettingsWords′.mir l8 0 u-3) ∷ ‵ (fdies MSettingsWords′.mir l8) ∷ ‵ (fat fullShare (tyRef (named 3) mut (pointee (R-AnswerWords .written))) l7 0 (vptr b7 o7)) ∷ ‵ (fdies (tyRef (named 3) mut (pointee (R-AnswerWords .written))) l7) ∷ ‵ (froom MStamp′.mir l6 0) ∷ ‵ (fdies MStamp′.mir l6) ∷ ‵ (froom (tyInt w16) l5 0) ∷ ‵ (fdies (tyInt w16) l5) ∷ ‵ (froom (tyInt w64) l4 0) ∷ ‵ (fdies (tyInt w64) l4) ∷ ‵ (fat fullShare (tyRef (named 2) mut (pointee (R-Watch .written))) l3 0 (vptr b3 o3)) ∷ ‵ (fdies (tyRef (named 2) mut (pointee (R-Watch .written))) l3) ∷ ‵ (fat fullShare (tyRef (named 1) mut (pointee (R-Servo .written))) l2 0 (vptr b2 o2)) ∷ ‵ (fdies (tyRef (named 1) mut (pointee (R-Servo .written))) l2) ∷ ‵ (fat fullShare (tyRef (named 0) mut (pointee (R-UnitWords .written))) l1 0 (vptr b1 o1)) ∷ ‵ (fdies (tyRef (named 0) mut (pointee (R-UnitWords .written))) l1) ∷ ‵ (froom tyUnit l0 0) ∷ ‵ (fdies tyUnit l0) ∷ []) (runs C Λ En mir′.t-11 (atRet En Post))
+      from-11 : (u-3 : Val) (g-4 : Is R-SettingsWords (h1 .settings) (u-3 ∷ [])) (u-7 : Val) (g-8 : Is R-StateWords (h1 .state) (u-7 ∷ [])) (u-11 : Val) (g-12 : Is R-HalvesWords (h1 .halves) (u-11 ∷ [])) (u-15 : Val) (g-16 : Is R-DelaysWords (h1 .delays) (u-15 ∷ [])) (p-18 : STold.Told) (w-17 : Val) (e-19 : p-18 ≡ sentTold (h1 .settings) (h1 .state) (h1 .halves) (h1 .delays) h4 h5 h6) (is-20 : Is R-Told p-18 (w-17 ∷ [])) (left1 : Holds (not (p-18 .barred))) → Sq W (‵ (fobs γ1 (R-UnitWords .coded .code (with-UnitWords-2 (with-UnitWords-1 h1 (p-18 .state)) (p-18 .halves)))) ∷ ‵ (fbor κ1 (Body (mem R-UnitWords) b1 o1 γ1)) ∷ ‵ (flft κ1 q1) ∷ ‵ (flft κ7 q7) ∷ ‵ (flft κ3 q3) ∷ ‵ (flft κ2 q2) ∷ ‵ (ftrue) ∷ ‵ (fobs γ7 (R-AnswerWords .coded .code h7)) ∷ ‵ (fbor κ7 (Body (mem R-AnswerWords) b7 o7 γ7)) ∷ ‵ (R-Stamp .own h6 (u6 ∷ [])) ∷ ‵ (R-u16 .own h5 (u5 ∷ [])) ∷ ‵ (R-u64 .own h4 (u4 ∷ [])) ∷ ‵ (fobs γ3 (R-Watch .coded .code h3)) ∷ ‵ (fbor κ3 (Body (mem R-Watch) b3 o3 γ3)) ∷ ‵ (fobs γ2 (R-Servo .coded .code h2)) ∷ ‵ (fbor κ2 (Body (mem R-Servo) b2 o2 γ2)) ∷ ‵ (froom (tyRef erased mut (pointee (R-u8x128 .written))) l27 0) ∷ ‵ (fdies (tyRef erased mut (pointee (R-u8x128 .written))) l27) ∷ ‵ (froom (tyRef erased mut (pointee (R-i32x128 .written))) l26 0) ∷ ‵ (fdies (tyRef erased mut (pointee (R-i32x128 .written))) l26) ∷ ‵ (froom (tyRef erased mut (pointee (R-i64x128 .written))) l25 0) ∷ ‵ (fdies (tyRef erased mut (pointee (R-i64x128 .written))) l25) ∷ ‵ (froom MHead′.mir l24 0) ∷ ‵ (fdies MHead′.mir l24) ∷ ‵ (froom MAnswerWords′.mir l23 0) ∷ ‵ (fdies MAnswerWords′.mir l23) ∷ ‵ (froom MAnswerWords′.mir l22 0) ∷ ‵ (fdies MAnswerWords′.mir l22) ∷ ‵ (froom tyBool l21 0) ∷ ‵ (fdies tyBool l21) ∷ ‵ (froom (tyInt w16) l20 0) ∷ ‵ (fdies (tyInt w16) l20) ∷ ‵ (froom (tyInt w8) l19 0) ∷ ‵ (fdies (tyInt w8) l19) ∷ ‵ (froom MServo′.mir l18 0) ∷ ‵ (fdies MServo′.mir l18) ∷ ‵ (froom tyBool l17 0) ∷ ‵ (fdies tyBool l17) ∷ ‵ (froom tyBool l16 0) ∷ ‵ (fdies tyBool l16) ∷ ‵ (froom MAccepted′.mir l15 0) ∷ ‵ (fdies MAccepted′.mir l15) ∷ ‵ (froom MServo′.mir l14 0) ∷ ‵ (fdies MServo′.mir l14) ∷ ‵ (froom tyBool l13 0) ∷ ‵ (fdies tyBool l13) ∷ ‵ (fat fullShare MTold′.mir l12 0 (vstruct (ofList ((parts-Told p-18 w-17 is-20) .pu0 ∷ (parts-Told p-18 w-17 is-20) .pu1 ∷ (parts-Told p-18 w-17 is-20) .pu2 ∷ (parts-Told p-18 w-17 is-20) .pu3 ∷ (parts-Told p-18 w-17 is-20) .pu4 ∷ (parts-Told p-18 w-17 is-20) .pu5 ∷ (parts-Told p-18 w-17 is-20) .pu6 ∷ (parts-Told p-18 w-17 is-20) .pu7 ∷ (parts-Told p-18 w-17 is-20) .pu8 ∷ (parts-Told p-18 w-17 is-20) .pu9 ∷ [])))) ∷ ‵ (fdies MTold′.mir l12) ∷ ‵ (froom MDelaysWords′.mir l11 0) ∷ ‵ (fdies MDelaysWords′.mir l11) ∷ ‵ (froom MHalvesWords′.mir l10 0) ∷ ‵ (fdies MHalvesWords′.mir l10) ∷ ‵ (froom MStateWords′.mir l9 0) ∷ ‵ (fdies MStateWords′.mir l9) ∷ ‵ (fat fullShare MSettingsWords′.mir l8 0 u-3) ∷ ‵ (fdies MSettingsWords′.mir l8) ∷ ‵ (fat fullShare (tyRef (named 3) mut (pointee (R-AnswerWords .written))) l7 0 (vptr b7 o7)) ∷ ‵ (fdies (tyRef (named 3) mut (pointee (R-AnswerWords .written))) l7) ∷ ‵ (froom MStamp′.mir l6 0) ∷ ‵ (fdies MStamp′.mir l6) ∷ ‵ (froom (tyInt w16) l5 0) ∷ ‵ (fdies (tyInt w16) l5) ∷ ‵ (froom (tyInt w64) l4 0) ∷ ‵ (fdies (tyInt w64) l4) ∷ ‵ (fat fullShare (tyRef (named 2) mut (pointee (R-Watch .written))) l3 0 (vptr b3 o3)) ∷ ‵ (fdies (tyRef (named 2) mut (pointee (R-Watch .written))) l3) ∷ ‵ (fat fullShare (tyRef (named 1) mut (pointee (R-Servo .written))) l2 0 (vptr b2 o2)) ∷ ‵ (fdies (tyRef (named 1) mut (pointee (R-Servo .written))) l2) ∷ ‵ (fat fullShare (tyRef (named 0) mut (pointee (R-UnitWords .written))) l1 0 (vptr b1 o1)) ∷ ‵ (fdies (tyRef (named 0) mut (pointee (R-UnitWords .written))) l1) ∷ ‵ (froom tyUnit l0 0) ∷ ‵ (fdies tyUnit l0) ∷ []) (runs C Λ En mir′.t-11 (atRet En Post))
       from-11 u-3 g-4 u-7 g-8 u-11 g-12 u-15 g-16 p-18 w-17 e-19 is-20 left1 =
           opens ! tt R-UnitWords {h = (with-UnitWords-2 (with-UnitWords-1 h1 (p-18 .state)) (p-18 .halves))} b1 o1 (λ vs-31.
           move ! (1 ∷ []) $
@@ -1373,17 +1375,17 @@ module _ {M : Type 1} (𝓤 : URA M) (H : Heap 𝓤) (A : Atoms 𝓤) (W : Given
           move ! (1 ∷ []) $
           use1 W (‵ (fat fullShare MUnitWords′.mir b1 o1 (only vs-31))) (W .laws .raw-at fullShare MUnitWords′.mir b1 o1 (only vs-31)) $
           rewrite ! 0 (λ (u : Val). ‵ (fat fullShare MUnitWords′.mir b1 o1 u)) ((parts-UnitWords (with-UnitWords-2 (with-UnitWords-1 h1 (p-18 .state)) (p-18 .halves)) (only vs-31) (one-UnitWords (with-UnitWords-2 (with-UnitWords-1 h1 (p-18 .state)) (p-18 .halves)) vs-31 g-32)) .whole-is) refl $
-          assigns ! (of-opd ! (load ! (from ! (fld ! {τ = MDelaysWords′.mir} {d = off-Told-1} field-Told-1 (stop !))) (look-in ! 40 (sub ! {ν = name-of MTold′.mir} {τs = tys-of MTold′.mir} 1 {τ = MDelaysWords′.mir} {d = off-Told-1} field-Told-1 (whole !))))) (from ! (hop ! (look ! 62 refl) (fld ! {τ = MDelaysWords′.mir} {d = off-UnitWords-3} field-UnitWords-3 (stop !)))) (store-in ! 0 (sub ! {ν = name-of MUnitWords′.mir} {τs = tys-of MUnitWords′.mir} 3 {τ = MDelaysWords′.mir} {d = off-UnitWords-3} field-UnitWords-3 (whole !)) (lawful-DelaysWords 𝓤 H A W .typed (p-18 .delays) _ ((parts-Told p-18 w-17 is-20) .pg1) .0)) $
+          assigns ! (of-opd ! (load ! (from ! (fld ! {τ = MDelaysWords′.mir} {d = off-Told-1} field-Told-1 (stop !))) (look-in ! 48 (sub ! {ν = name-of MTold′.mir} {τs = tys-of MTold′.mir} 1 {τ = MDelaysWords′.mir} {d = off-Told-1} field-Told-1 (whole !))))) (from ! (hop ! (look ! 70 refl) (fld ! {τ = MDelaysWords′.mir} {d = off-UnitWords-3} field-UnitWords-3 (stop !)))) (store-in ! 0 (sub ! {ν = name-of MUnitWords′.mir} {τs = tys-of MUnitWords′.mir} 3 {τ = MDelaysWords′.mir} {d = off-UnitWords-3} field-UnitWords-3 (whole !)) (lawful-DelaysWords 𝓤 H A W .typed (p-18 .delays) _ ((parts-Told p-18 w-17 is-20) .pg1) .0)) $
           use1 W (‵ (cellAt fullShare (R-UnitWords .mir) ((vstruct (ofList (((parts-UnitWords (with-UnitWords-2 (with-UnitWords-1 h1 (p-18 .state)) (p-18 .halves)) (only vs-31) (one-UnitWords (with-UnitWords-2 (with-UnitWords-1 h1 (p-18 .state)) (p-18 .halves)) vs-31 g-32)) .pu0) ∷ ((parts-UnitWords (with-UnitWords-2 (with-UnitWords-1 h1 (p-18 .state)) (p-18 .halves)) (only vs-31) (one-UnitWords (with-UnitWords-2 (with-UnitWords-1 h1 (p-18 .state)) (p-18 .halves)) vs-31 g-32)) .pu1) ∷ ((parts-UnitWords (with-UnitWords-2 (with-UnitWords-1 h1 (p-18 .state)) (p-18 .halves)) (only vs-31) (one-UnitWords (with-UnitWords-2 (with-UnitWords-1 h1 (p-18 .state)) (p-18 .halves)) vs-31 g-32)) .pu2) ∷ ((parts-Told p-18 w-17 is-20) .pu1) ∷ []))) ∷ []) b1 o1)) (W .laws .at-raw fullShare MUnitWords′.mir b1 o1 (vstruct (ofList (((parts-UnitWords (with-UnitWords-2 (with-UnitWords-1 h1 (p-18 .state)) (p-18 .halves)) (only vs-31) (one-UnitWords (with-UnitWords-2 (with-UnitWords-1 h1 (p-18 .state)) (p-18 .halves)) vs-31 g-32)) .pu0) ∷ ((parts-UnitWords (with-UnitWords-2 (with-UnitWords-1 h1 (p-18 .state)) (p-18 .halves)) (only vs-31) (one-UnitWords (with-UnitWords-2 (with-UnitWords-1 h1 (p-18 .state)) (p-18 .halves)) vs-31 g-32)) .pu1) ∷ ((parts-UnitWords (with-UnitWords-2 (with-UnitWords-1 h1 (p-18 .state)) (p-18 .halves)) (only vs-31) (one-UnitWords (with-UnitWords-2 (with-UnitWords-1 h1 (p-18 .state)) (p-18 .halves)) vs-31 g-32)) .pu2) ∷ ((parts-Told p-18 w-17 is-20) .pu1) ∷ [])))) $
           move ! (1 ∷ []) $
           drop ! $
           owned ! R-UnitWords (Is R-UnitWords) (makes-UnitWords 𝓤 H A W) (with-UnitWords-3 (with-UnitWords-2 (with-UnitWords-1 h1 (p-18 .state)) (p-18 .halves)) (p-18 .delays)) _ (shape-UnitWords (with-UnitWords-3 (with-UnitWords-2 (with-UnitWords-1 h1 (p-18 .state)) (p-18 .halves)) (p-18 .delays)) ((parts-UnitWords (with-UnitWords-2 (with-UnitWords-1 h1 (p-18 .state)) (p-18 .halves)) (only vs-31) (one-UnitWords (with-UnitWords-2 (with-UnitWords-1 h1 (p-18 .state)) (p-18 .halves)) vs-31 g-32)) .pu0) ((parts-UnitWords (with-UnitWords-2 (with-UnitWords-1 h1 (p-18 .state)) (p-18 .halves)) (only vs-31) (one-UnitWords (with-UnitWords-2 (with-UnitWords-1 h1 (p-18 .state)) (p-18 .halves)) vs-31 g-32)) .pu1) ((parts-UnitWords (with-UnitWords-2 (with-UnitWords-1 h1 (p-18 .state)) (p-18 .halves)) (only vs-31) (one-UnitWords (with-UnitWords-2 (with-UnitWords-1 h1 (p-18 .state)) (p-18 .halves)) vs-31 g-32)) .pu2) ((parts-Told p-18 w-17 is-20) .pu1) ((parts-UnitWords (with-UnitWords-2 (with-UnitWords-1 h1 (p-18 .state)) (p-18 .halves)) (only vs-31) (one-UnitWords (with-UnitWords-2 (with-UnitWords-1 h1 (p-18 .state)) (p-18 .halves)) vs-31 g-32)) .pg0) ((parts-UnitWords (with-UnitWords-2 (with-UnitWords-1 h1 (p-18 .state)) (p-18 .halves)) (only vs-31) (one-UnitWords (with-UnitWords-2 (with-UnitWords-1 h1 (p-18 .state)) (p-18 .halves)) vs-31 g-32)) .pg1) ((parts-UnitWords (with-UnitWords-2 (with-UnitWords-1 h1 (p-18 .state)) (p-18 .halves)) (only vs-31) (one-UnitWords (with-UnitWords-2 (with-UnitWords-1 h1 (p-18 .state)) (p-18 .halves)) vs-31 g-32)) .pg2) ((parts-Told p-18 w-17 is-20) .pg1)) $
           move ! (1 ∷ 0 ∷ 2 ∷ 3 ∷ 4 ∷ []) $
           closes ! tt R-UnitWords (with-UnitWords-3 (with-UnitWords-2 (with-UnitWords-1 h1 (p-18 .state)) (p-18 .halves)) (p-18 .delays)) ((vstruct (ofList (((parts-UnitWords (with-UnitWords-2 (with-UnitWords-1 h1 (p-18 .state)) (p-18 .halves)) (only vs-31) (one-UnitWords (with-UnitWords-2 (with-UnitWords-1 h1 (p-18 .state)) (p-18 .halves)) vs-31 g-32)) .pu0) ∷ ((parts-UnitWords (with-UnitWords-2 (with-UnitWords-1 h1 (p-18 .state)) (p-18 .halves)) (only vs-31) (one-UnitWords (with-UnitWords-2 (with-UnitWords-1 h1 (p-18 .state)) (p-18 .halves)) vs-31 g-32)) .pu1) ∷ ((parts-UnitWords (with-UnitWords-2 (with-UnitWords-1 h1 (p-18 .state)) (p-18 .halves)) (only vs-31) (one-UnitWords (with-UnitWords-2 (with-UnitWords-1 h1 (p-18 .state)) (p-18 .halves)) vs-31 g-32)) .pu2) ∷ ((parts-Told p-18 w-17 is-20) .pu1) ∷ []))) ∷ []) b1 o1 $
-          forget ! 60 refl $
+          forget ! 68 refl $
           from-12 u-3 g-4 u-7 g-8 u-11 g-12 u-15 g-16 p-18 w-17 e-19 is-20 left1))
 
-      from-10 : (u-3 : Val) (g-4 : Is R-SettingsWords (h1 .settings) (u-3 ∷ [])) (u-7 : Val) (g-8 : Is R-StateWords (h1 .state) (u-7 ∷ [])) (u-11 : Val) (g-12 : Is R-HalvesWords (h1 .halves) (u-11 ∷ [])) (u-15 : Val) (g-16 : Is R-DelaysWords (h1 .delays) (u-15 ∷ [])) (p-18 : STold.Told) (w-17 : Val) (e-19 : p-18 ≡ sentTold (h1 .settings) (h1 .state) (h1 .halves) (h1 .delays) h4 h5 h6) (is-20 : Is R-Told p-18 (w-17 ∷ [])) (left1 : Holds (not (p-18 .barred))) → Sq W (‵ (fobs γ1 (R-UnitWords .coded .code (with-UnitWords-1 h1 (p-18 .state)))) ∷ ‵ (fbor κ1 (Body (mem R-UnitWords) b1 o1 γ1)) ∷ ‵ (flft κ1 q1) ∷ ‵ (flft κ7 q7) ∷ ‵ (flft κ3 q3) ∷ ‵ (flft κ2 q2) ∷ ‵ (ftrue) ∷ ‵ (fobs γ7 (R-AnswerWords .coded .code h7)) ∷ ‵ (fbor κ7 (Body (mem R-AnswerWords) b7 o7 γ7)) ∷ ‵ (R-Stamp .own h6 (u6 ∷ [])) ∷ ‵ (R-u16 .own h5 (u5 ∷ [])) ∷ ‵ (R-u64 .own h4 (u4 ∷ [])) ∷ ‵ (fobs γ3 (R-Watch .coded .code h3)) ∷ ‵ (fbor κ3 (Body (mem R-Watch) b3 o3 γ3)) ∷ ‵ (fobs γ2 (R-Servo .coded .code h2)) ∷ ‵ (fbor κ2 (Body (mem R-Servo) b2 o2 γ2)) ∷ ‵ (froom (tyRef erased mut (pointee (R-u8x128 .written))) l23 0) ∷ ‵ (fdies (tyRef erased mut (pointee (R-u8x128 .written))) l23) ∷ ‵ (froom (tyRef erased mut (pointee (R-i32x128 .written))) l22 0) ∷ ‵ (fdies (tyRef erased mut (pointee (R-i32x128 .written))) l22) ∷ ‵ (froom (tyRef erased mut (pointee (R-i64x128 .written))) l21 0) ∷ ‵ (fdies (tyRef erased mut (pointee (R-i64x128 .written))) l21) ∷ ‵ (froom MHead′.mir l20 0) ∷ ‵ (fdies MHead′.mir l20) ∷ ‵ (froom MAnswerWords′.mir l19 0) ∷ ‵ (fdies MAnswerWords′.mir l19) ∷ ‵ (froom MAnswerWords′.mir l18 0) ∷ ‵ (fdies MAnswerWords′.mir l18) ∷ ‵ (froom tyBool l17 0) ∷ ‵ (fdies tyBool l17) ∷ ‵ (froom tyBool l16 0) ∷ ‵ (fdies tyBool l16) ∷ ‵ (froom MServo′.mir l15 0) ∷ ‵ (fdies MServo′.mir l15) ∷ ‵ (froom MServo′.mir l14 0) ∷ ‵ (fdies MServo′.mir l14) ∷ ‵ (froom tyBool l13 0) ∷ ‵ (fdies tyBool l13) ∷ ‵ (fat fullShare MTold′.mir l12 0 (vstruct (ofList ((parts-Told p-18 w-17 is-20) .pu0 ∷ (parts-Told p-18 w-17 is-20) .pu1 ∷ (parts-Told p-18 w-17 is-20) .pu2 ∷ (parts-Told p-18 w-17 is-20) .pu3 ∷ (parts-Told p-18 w-17 is-20) .pu4 ∷ (parts-Told p-18 w-17 is-20) .pu5 ∷ (parts-Told p-18 w-17 is-20) .pu6 ∷ (parts-Told p-18 w-17 is-20) .pu7 ∷ (parts-Told p-18 w-17 is-20) .pu8 ∷ (parts-Told p-18 w-17 is-20) .pu9 ∷ [])))) ∷ ‵ (fdies MTold′.mir l12) ∷ ‵ (froom MDelaysWords′.mir l11 0) ∷ ‵ (fdies MDelaysWords′.mir l11) ∷ ‵ (froom MHalvesWords′.mir l10 0) ∷ ‵ (fdies MHalvesWords′.mir l10) ∷ ‵ (froom MStateWords′.mir l9 0) ∷ ‵ (fdies MStateWords′.mir l9) ∷ ‵ (fat fullShare MSettingsWords′.mir l8 0 u-3) ∷ ‵ (fdies MSettingsWords′.mir l8) ∷ ‵ (fat fullShare (tyRef (named 3) mut (pointee (R-AnswerWords .written))) l7 0 (vptr b7 o7)) ∷ ‵ (fdies (tyRef (named 3) mut (pointee (R-AnswerWords .written))) l7) ∷ ‵ (froom MStamp′.mir l6 0) ∷ ‵ (fdies MStamp′.mir l6) ∷ ‵ (froom (tyInt w16) l5 0) ∷ ‵ (fdies (tyInt w16) l5) ∷ ‵ (froom (tyInt w64) l4 0) ∷ ‵ (fdies (tyInt w64) l4) ∷ ‵ (fat fullShare (tyRef (named 2) mut (pointee (R-Watch .written))) l3 0 (vptr b3 o3)) ∷ ‵ (fdies (tyRef (named 2) mut (pointee (R-Watch .written))) l3) ∷ ‵ (fat fullShare (tyRef (named 1) mut (pointee (R-Servo .written))) l2 0 (vptr b2 o2)) ∷ ‵ (fdies (tyRef (named 1) mut (pointee (R-Servo .written))) l2) ∷ ‵ (fat fullShare (tyRef (named 0) mut (pointee (R-UnitWords .written))) l1 0 (vptr b1 o1)) ∷ ‵ (fdies (tyRef (named 0) mut (pointee (R-UnitWords .written))) l1) ∷ ‵ (froom tyUnit l0 0) ∷ ‵ (fdies tyUnit l0) ∷ []) (runs C Λ En mir′.t-10 (atRet En Post))
+      from-10 : (u-3 : Val) (g-4 : Is R-SettingsWords (h1 .settings) (u-3 ∷ [])) (u-7 : Val) (g-8 : Is R-StateWords (h1 .state) (u-7 ∷ [])) (u-11 : Val) (g-12 : Is R-HalvesWords (h1 .halves) (u-11 ∷ [])) (u-15 : Val) (g-16 : Is R-DelaysWords (h1 .delays) (u-15 ∷ [])) (p-18 : STold.Told) (w-17 : Val) (e-19 : p-18 ≡ sentTold (h1 .settings) (h1 .state) (h1 .halves) (h1 .delays) h4 h5 h6) (is-20 : Is R-Told p-18 (w-17 ∷ [])) (left1 : Holds (not (p-18 .barred))) → Sq W (‵ (fobs γ1 (R-UnitWords .coded .code (with-UnitWords-1 h1 (p-18 .state)))) ∷ ‵ (fbor κ1 (Body (mem R-UnitWords) b1 o1 γ1)) ∷ ‵ (flft κ1 q1) ∷ ‵ (flft κ7 q7) ∷ ‵ (flft κ3 q3) ∷ ‵ (flft κ2 q2) ∷ ‵ (ftrue) ∷ ‵ (fobs γ7 (R-AnswerWords .coded .code h7)) ∷ ‵ (fbor κ7 (Body (mem R-AnswerWords) b7 o7 γ7)) ∷ ‵ (R-Stamp .own h6 (u6 ∷ [])) ∷ ‵ (R-u16 .own h5 (u5 ∷ [])) ∷ ‵ (R-u64 .own h4 (u4 ∷ [])) ∷ ‵ (fobs γ3 (R-Watch .coded .code h3)) ∷ ‵ (fbor κ3 (Body (mem R-Watch) b3 o3 γ3)) ∷ ‵ (fobs γ2 (R-Servo .coded .code h2)) ∷ ‵ (fbor κ2 (Body (mem R-Servo) b2 o2 γ2)) ∷ ‵ (froom (tyRef erased mut (pointee (R-u8x128 .written))) l27 0) ∷ ‵ (fdies (tyRef erased mut (pointee (R-u8x128 .written))) l27) ∷ ‵ (froom (tyRef erased mut (pointee (R-i32x128 .written))) l26 0) ∷ ‵ (fdies (tyRef erased mut (pointee (R-i32x128 .written))) l26) ∷ ‵ (froom (tyRef erased mut (pointee (R-i64x128 .written))) l25 0) ∷ ‵ (fdies (tyRef erased mut (pointee (R-i64x128 .written))) l25) ∷ ‵ (froom MHead′.mir l24 0) ∷ ‵ (fdies MHead′.mir l24) ∷ ‵ (froom MAnswerWords′.mir l23 0) ∷ ‵ (fdies MAnswerWords′.mir l23) ∷ ‵ (froom MAnswerWords′.mir l22 0) ∷ ‵ (fdies MAnswerWords′.mir l22) ∷ ‵ (froom tyBool l21 0) ∷ ‵ (fdies tyBool l21) ∷ ‵ (froom (tyInt w16) l20 0) ∷ ‵ (fdies (tyInt w16) l20) ∷ ‵ (froom (tyInt w8) l19 0) ∷ ‵ (fdies (tyInt w8) l19) ∷ ‵ (froom MServo′.mir l18 0) ∷ ‵ (fdies MServo′.mir l18) ∷ ‵ (froom tyBool l17 0) ∷ ‵ (fdies tyBool l17) ∷ ‵ (froom tyBool l16 0) ∷ ‵ (fdies tyBool l16) ∷ ‵ (froom MAccepted′.mir l15 0) ∷ ‵ (fdies MAccepted′.mir l15) ∷ ‵ (froom MServo′.mir l14 0) ∷ ‵ (fdies MServo′.mir l14) ∷ ‵ (froom tyBool l13 0) ∷ ‵ (fdies tyBool l13) ∷ ‵ (fat fullShare MTold′.mir l12 0 (vstruct (ofList ((parts-Told p-18 w-17 is-20) .pu0 ∷ (parts-Told p-18 w-17 is-20) .pu1 ∷ (parts-Told p-18 w-17 is-20) .pu2 ∷ (parts-Told p-18 w-17 is-20) .pu3 ∷ (parts-Told p-18 w-17 is-20) .pu4 ∷ (parts-Told p-18 w-17 is-20) .pu5 ∷ (parts-Told p-18 w-17 is-20) .pu6 ∷ (parts-Told p-18 w-17 is-20) .pu7 ∷ (parts-Told p-18 w-17 is-20) .pu8 ∷ (parts-Told p-18 w-17 is-20) .pu9 ∷ [])))) ∷ ‵ (fdies MTold′.mir l12) ∷ ‵ (froom MDelaysWords′.mir l11 0) ∷ ‵ (fdies MDelaysWords′.mir l11) ∷ ‵ (froom MHalvesWords′.mir l10 0) ∷ ‵ (fdies MHalvesWords′.mir l10) ∷ ‵ (froom MStateWords′.mir l9 0) ∷ ‵ (fdies MStateWords′.mir l9) ∷ ‵ (fat fullShare MSettingsWords′.mir l8 0 u-3) ∷ ‵ (fdies MSettingsWords′.mir l8) ∷ ‵ (fat fullShare (tyRef (named 3) mut (pointee (R-AnswerWords .written))) l7 0 (vptr b7 o7)) ∷ ‵ (fdies (tyRef (named 3) mut (pointee (R-AnswerWords .written))) l7) ∷ ‵ (froom MStamp′.mir l6 0) ∷ ‵ (fdies MStamp′.mir l6) ∷ ‵ (froom (tyInt w16) l5 0) ∷ ‵ (fdies (tyInt w16) l5) ∷ ‵ (froom (tyInt w64) l4 0) ∷ ‵ (fdies (tyInt w64) l4) ∷ ‵ (fat fullShare (tyRef (named 2) mut (pointee (R-Watch .written))) l3 0 (vptr b3 o3)) ∷ ‵ (fdies (tyRef (named 2) mut (pointee (R-Watch .written))) l3) ∷ ‵ (fat fullShare (tyRef (named 1) mut (pointee (R-Servo .written))) l2 0 (vptr b2 o2)) ∷ ‵ (fdies (tyRef (named 1) mut (pointee (R-Servo .written))) l2) ∷ ‵ (fat fullShare (tyRef (named 0) mut (pointee (R-UnitWords .written))) l1 0 (vptr b1 o1)) ∷ ‵ (fdies (tyRef (named 0) mut (pointee (R-UnitWords .written))) l1) ∷ ‵ (froom tyUnit l0 0) ∷ ‵ (fdies tyUnit l0) ∷ []) (runs C Λ En mir′.t-10 (atRet En Post))
       from-10 u-3 g-4 u-7 g-8 u-11 g-12 u-15 g-16 p-18 w-17 e-19 is-20 left1 =
           opens ! tt R-UnitWords {h = (with-UnitWords-1 h1 (p-18 .state))} b1 o1 (λ vs-29.
           move ! (1 ∷ []) $
@@ -1393,7 +1395,7 @@ module _ {M : Type 1} (𝓤 : URA M) (H : Heap 𝓤) (A : Atoms 𝓤) (W : Given
           move ! (1 ∷ []) $
           use1 W (‵ (fat fullShare MUnitWords′.mir b1 o1 (only vs-29))) (W .laws .raw-at fullShare MUnitWords′.mir b1 o1 (only vs-29)) $
           rewrite ! 0 (λ (u : Val). ‵ (fat fullShare MUnitWords′.mir b1 o1 u)) ((parts-UnitWords (with-UnitWords-1 h1 (p-18 .state)) (only vs-29) (one-UnitWords (with-UnitWords-1 h1 (p-18 .state)) vs-29 g-30)) .whole-is) refl $
-          assigns ! (of-opd ! (load ! (from ! (fld ! {τ = MHalvesWords′.mir} {d = off-Told-0} field-Told-0 (stop !))) (look-in ! 40 (sub ! {ν = name-of MTold′.mir} {τs = tys-of MTold′.mir} 0 {τ = MHalvesWords′.mir} {d = off-Told-0} field-Told-0 (whole !))))) (from ! (hop ! (look ! 62 refl) (fld ! {τ = MHalvesWords′.mir} {d = off-UnitWords-2} field-UnitWords-2 (stop !)))) (store-in ! 0 (sub ! {ν = name-of MUnitWords′.mir} {τs = tys-of MUnitWords′.mir} 2 {τ = MHalvesWords′.mir} {d = off-UnitWords-2} field-UnitWords-2 (whole !)) (lawful-HalvesWords 𝓤 H A W .typed (p-18 .halves) _ ((parts-Told p-18 w-17 is-20) .pg0) .0)) $
+          assigns ! (of-opd ! (load ! (from ! (fld ! {τ = MHalvesWords′.mir} {d = off-Told-0} field-Told-0 (stop !))) (look-in ! 48 (sub ! {ν = name-of MTold′.mir} {τs = tys-of MTold′.mir} 0 {τ = MHalvesWords′.mir} {d = off-Told-0} field-Told-0 (whole !))))) (from ! (hop ! (look ! 70 refl) (fld ! {τ = MHalvesWords′.mir} {d = off-UnitWords-2} field-UnitWords-2 (stop !)))) (store-in ! 0 (sub ! {ν = name-of MUnitWords′.mir} {τs = tys-of MUnitWords′.mir} 2 {τ = MHalvesWords′.mir} {d = off-UnitWords-2} field-UnitWords-2 (whole !)) (lawful-HalvesWords 𝓤 H A W .typed (p-18 .halves) _ ((parts-Told p-18 w-17 is-20) .pg0) .0)) $
           use1 W (‵ (cellAt fullShare (R-UnitWords .mir) ((vstruct (ofList (((parts-UnitWords (with-UnitWords-1 h1 (p-18 .state)) (only vs-29) (one-UnitWords (with-UnitWords-1 h1 (p-18 .state)) vs-29 g-30)) .pu0) ∷ ((parts-UnitWords (with-UnitWords-1 h1 (p-18 .state)) (only vs-29) (one-UnitWords (with-UnitWords-1 h1 (p-18 .state)) vs-29 g-30)) .pu1) ∷ ((parts-Told p-18 w-17 is-20) .pu0) ∷ ((parts-UnitWords (with-UnitWords-1 h1 (p-18 .state)) (only vs-29) (one-UnitWords (with-UnitWords-1 h1 (p-18 .state)) vs-29 g-30)) .pu3) ∷ []))) ∷ []) b1 o1)) (W .laws .at-raw fullShare MUnitWords′.mir b1 o1 (vstruct (ofList (((parts-UnitWords (with-UnitWords-1 h1 (p-18 .state)) (only vs-29) (one-UnitWords (with-UnitWords-1 h1 (p-18 .state)) vs-29 g-30)) .pu0) ∷ ((parts-UnitWords (with-UnitWords-1 h1 (p-18 .state)) (only vs-29) (one-UnitWords (with-UnitWords-1 h1 (p-18 .state)) vs-29 g-30)) .pu1) ∷ ((parts-Told p-18 w-17 is-20) .pu0) ∷ ((parts-UnitWords (with-UnitWords-1 h1 (p-18 .state)) (only vs-29) (one-UnitWords (with-UnitWords-1 h1 (p-18 .state)) vs-29 g-30)) .pu3) ∷ [])))) $
           move ! (1 ∷ []) $
           drop ! $
@@ -1402,7 +1404,7 @@ module _ {M : Type 1} (𝓤 : URA M) (H : Heap 𝓤) (A : Atoms 𝓤) (W : Given
           closes ! tt R-UnitWords (with-UnitWords-2 (with-UnitWords-1 h1 (p-18 .state)) (p-18 .halves)) ((vstruct (ofList (((parts-UnitWords (with-UnitWords-1 h1 (p-18 .state)) (only vs-29) (one-UnitWords (with-UnitWords-1 h1 (p-18 .state)) vs-29 g-30)) .pu0) ∷ ((parts-UnitWords (with-UnitWords-1 h1 (p-18 .state)) (only vs-29) (one-UnitWords (with-UnitWords-1 h1 (p-18 .state)) vs-29 g-30)) .pu1) ∷ ((parts-Told p-18 w-17 is-20) .pu0) ∷ ((parts-UnitWords (with-UnitWords-1 h1 (p-18 .state)) (only vs-29) (one-UnitWords (with-UnitWords-1 h1 (p-18 .state)) vs-29 g-30)) .pu3) ∷ []))) ∷ []) b1 o1 $
           from-11 u-3 g-4 u-7 g-8 u-11 g-12 u-15 g-16 p-18 w-17 e-19 is-20 left1))
 
-      from-9 : (u-3 : Val) (g-4 : Is R-SettingsWords (h1 .settings) (u-3 ∷ [])) (u-7 : Val) (g-8 : Is R-StateWords (h1 .state) (u-7 ∷ [])) (u-11 : Val) (g-12 : Is R-HalvesWords (h1 .halves) (u-11 ∷ [])) (u-15 : Val) (g-16 : Is R-DelaysWords (h1 .delays) (u-15 ∷ [])) (p-18 : STold.Told) (w-17 : Val) (e-19 : p-18 ≡ sentTold (h1 .settings) (h1 .state) (h1 .halves) (h1 .delays) h4 h5 h6) (is-20 : Is R-Told p-18 (w-17 ∷ [])) (left1 : Holds (not (p-18 .barred))) → Sq W (‵ (fobs γ1 (R-UnitWords .coded .code h1)) ∷ ‵ (fbor κ1 (Body (mem R-UnitWords) b1 o1 γ1)) ∷ ‵ (flft κ1 q1) ∷ ‵ (flft κ7 q7) ∷ ‵ (flft κ3 q3) ∷ ‵ (flft κ2 q2) ∷ ‵ (ftrue) ∷ ‵ (fobs γ7 (R-AnswerWords .coded .code h7)) ∷ ‵ (fbor κ7 (Body (mem R-AnswerWords) b7 o7 γ7)) ∷ ‵ (R-Stamp .own h6 (u6 ∷ [])) ∷ ‵ (R-u16 .own h5 (u5 ∷ [])) ∷ ‵ (R-u64 .own h4 (u4 ∷ [])) ∷ ‵ (fobs γ3 (R-Watch .coded .code h3)) ∷ ‵ (fbor κ3 (Body (mem R-Watch) b3 o3 γ3)) ∷ ‵ (fobs γ2 (R-Servo .coded .code h2)) ∷ ‵ (fbor κ2 (Body (mem R-Servo) b2 o2 γ2)) ∷ ‵ (froom (tyRef erased mut (pointee (R-u8x128 .written))) l23 0) ∷ ‵ (fdies (tyRef erased mut (pointee (R-u8x128 .written))) l23) ∷ ‵ (froom (tyRef erased mut (pointee (R-i32x128 .written))) l22 0) ∷ ‵ (fdies (tyRef erased mut (pointee (R-i32x128 .written))) l22) ∷ ‵ (froom (tyRef erased mut (pointee (R-i64x128 .written))) l21 0) ∷ ‵ (fdies (tyRef erased mut (pointee (R-i64x128 .written))) l21) ∷ ‵ (froom MHead′.mir l20 0) ∷ ‵ (fdies MHead′.mir l20) ∷ ‵ (froom MAnswerWords′.mir l19 0) ∷ ‵ (fdies MAnswerWords′.mir l19) ∷ ‵ (froom MAnswerWords′.mir l18 0) ∷ ‵ (fdies MAnswerWords′.mir l18) ∷ ‵ (froom tyBool l17 0) ∷ ‵ (fdies tyBool l17) ∷ ‵ (froom tyBool l16 0) ∷ ‵ (fdies tyBool l16) ∷ ‵ (froom MServo′.mir l15 0) ∷ ‵ (fdies MServo′.mir l15) ∷ ‵ (froom MServo′.mir l14 0) ∷ ‵ (fdies MServo′.mir l14) ∷ ‵ (froom tyBool l13 0) ∷ ‵ (fdies tyBool l13) ∷ ‵ (fat fullShare MTold′.mir l12 0 (vstruct (ofList ((parts-Told p-18 w-17 is-20) .pu0 ∷ (parts-Told p-18 w-17 is-20) .pu1 ∷ (parts-Told p-18 w-17 is-20) .pu2 ∷ (parts-Told p-18 w-17 is-20) .pu3 ∷ (parts-Told p-18 w-17 is-20) .pu4 ∷ (parts-Told p-18 w-17 is-20) .pu5 ∷ (parts-Told p-18 w-17 is-20) .pu6 ∷ (parts-Told p-18 w-17 is-20) .pu7 ∷ (parts-Told p-18 w-17 is-20) .pu8 ∷ (parts-Told p-18 w-17 is-20) .pu9 ∷ [])))) ∷ ‵ (fdies MTold′.mir l12) ∷ ‵ (froom MDelaysWords′.mir l11 0) ∷ ‵ (fdies MDelaysWords′.mir l11) ∷ ‵ (froom MHalvesWords′.mir l10 0) ∷ ‵ (fdies MHalvesWords′.mir l10) ∷ ‵ (froom MStateWords′.mir l9 0) ∷ ‵ (fdies MStateWords′.mir l9) ∷ ‵ (fat fullShare MSettingsWords′.mir l8 0 u-3) ∷ ‵ (fdies MSettingsWords′.mir l8) ∷ ‵ (fat fullShare (tyRef (named 3) mut (pointee (R-AnswerWords .written))) l7 0 (vptr b7 o7)) ∷ ‵ (fdies (tyRef (named 3) mut (pointee (R-AnswerWords .written))) l7) ∷ ‵ (froom MStamp′.mir l6 0) ∷ ‵ (fdies MStamp′.mir l6) ∷ ‵ (froom (tyInt w16) l5 0) ∷ ‵ (fdies (tyInt w16) l5) ∷ ‵ (froom (tyInt w64) l4 0) ∷ ‵ (fdies (tyInt w64) l4) ∷ ‵ (fat fullShare (tyRef (named 2) mut (pointee (R-Watch .written))) l3 0 (vptr b3 o3)) ∷ ‵ (fdies (tyRef (named 2) mut (pointee (R-Watch .written))) l3) ∷ ‵ (fat fullShare (tyRef (named 1) mut (pointee (R-Servo .written))) l2 0 (vptr b2 o2)) ∷ ‵ (fdies (tyRef (named 1) mut (pointee (R-Servo .written))) l2) ∷ ‵ (fat fullShare (tyRef (named 0) mut (pointee (R-UnitWords .written))) l1 0 (vptr b1 o1)) ∷ ‵ (fdies (tyRef (named 0) mut (pointee (R-UnitWords .written))) l1) ∷ ‵ (froom tyUnit l0 0) ∷ ‵ (fdies tyUnit l0) ∷ []) (runs C Λ En mir′.t-9 (atRet En Post))
+      from-9 : (u-3 : Val) (g-4 : Is R-SettingsWords (h1 .settings) (u-3 ∷ [])) (u-7 : Val) (g-8 : Is R-StateWords (h1 .state) (u-7 ∷ [])) (u-11 : Val) (g-12 : Is R-HalvesWords (h1 .halves) (u-11 ∷ [])) (u-15 : Val) (g-16 : Is R-DelaysWords (h1 .delays) (u-15 ∷ [])) (p-18 : STold.Told) (w-17 : Val) (e-19 : p-18 ≡ sentTold (h1 .settings) (h1 .state) (h1 .halves) (h1 .delays) h4 h5 h6) (is-20 : Is R-Told p-18 (w-17 ∷ [])) (left1 : Holds (not (p-18 .barred))) → Sq W (‵ (fobs γ1 (R-UnitWords .coded .code h1)) ∷ ‵ (fbor κ1 (Body (mem R-UnitWords) b1 o1 γ1)) ∷ ‵ (flft κ1 q1) ∷ ‵ (flft κ7 q7) ∷ ‵ (flft κ3 q3) ∷ ‵ (flft κ2 q2) ∷ ‵ (ftrue) ∷ ‵ (fobs γ7 (R-AnswerWords .coded .code h7)) ∷ ‵ (fbor κ7 (Body (mem R-AnswerWords) b7 o7 γ7)) ∷ ‵ (R-Stamp .own h6 (u6 ∷ [])) ∷ ‵ (R-u16 .own h5 (u5 ∷ [])) ∷ ‵ (R-u64 .own h4 (u4 ∷ [])) ∷ ‵ (fobs γ3 (R-Watch .coded .code h3)) ∷ ‵ (fbor κ3 (Body (mem R-Watch) b3 o3 γ3)) ∷ ‵ (fobs γ2 (R-Servo .coded .code h2)) ∷ ‵ (fbor κ2 (Body (mem R-Servo) b2 o2 γ2)) ∷ ‵ (froom (tyRef erased mut (pointee (R-u8x128 .written))) l27 0) ∷ ‵ (fdies (tyRef erased mut (pointee (R-u8x128 .written))) l27) ∷ ‵ (froom (tyRef erased mut (pointee (R-i32x128 .written))) l26 0) ∷ ‵ (fdies (tyRef erased mut (pointee (R-i32x128 .written))) l26) ∷ ‵ (froom (tyRef erased mut (pointee (R-i64x128 .written))) l25 0) ∷ ‵ (fdies (tyRef erased mut (pointee (R-i64x128 .written))) l25) ∷ ‵ (froom MHead′.mir l24 0) ∷ ‵ (fdies MHead′.mir l24) ∷ ‵ (froom MAnswerWords′.mir l23 0) ∷ ‵ (fdies MAnswerWords′.mir l23) ∷ ‵ (froom MAnswerWords′.mir l22 0) ∷ ‵ (fdies MAnswerWords′.mir l22) ∷ ‵ (froom tyBool l21 0) ∷ ‵ (fdies tyBool l21) ∷ ‵ (froom (tyInt w16) l20 0) ∷ ‵ (fdies (tyInt w16) l20) ∷ ‵ (froom (tyInt w8) l19 0) ∷ ‵ (fdies (tyInt w8) l19) ∷ ‵ (froom MServo′.mir l18 0) ∷ ‵ (fdies MServo′.mir l18) ∷ ‵ (froom tyBool l17 0) ∷ ‵ (fdies tyBool l17) ∷ ‵ (froom tyBool l16 0) ∷ ‵ (fdies tyBool l16) ∷ ‵ (froom MAccepted′.mir l15 0) ∷ ‵ (fdies MAccepted′.mir l15) ∷ ‵ (froom MServo′.mir l14 0) ∷ ‵ (fdies MServo′.mir l14) ∷ ‵ (froom tyBool l13 0) ∷ ‵ (fdies tyBool l13) ∷ ‵ (fat fullShare MTold′.mir l12 0 (vstruct (ofList ((parts-Told p-18 w-17 is-20) .pu0 ∷ (parts-Told p-18 w-17 is-20) .pu1 ∷ (parts-Told p-18 w-17 is-20) .pu2 ∷ (parts-Told p-18 w-17 is-20) .pu3 ∷ (parts-Told p-18 w-17 is-20) .pu4 ∷ (parts-Told p-18 w-17 is-20) .pu5 ∷ (parts-Told p-18 w-17 is-20) .pu6 ∷ (parts-Told p-18 w-17 is-20) .pu7 ∷ (parts-Told p-18 w-17 is-20) .pu8 ∷ (parts-Told p-18 w-17 is-20) .pu9 ∷ [])))) ∷ ‵ (fdies MTold′.mir l12) ∷ ‵ (froom MDelaysWords′.mir l11 0) ∷ ‵ (fdies MDelaysWords′.mir l11) ∷ ‵ (froom MHalvesWords′.mir l10 0) ∷ ‵ (fdies MHalvesWords′.mir l10) ∷ ‵ (froom MStateWords′.mir l9 0) ∷ ‵ (fdies MStateWords′.mir l9) ∷ ‵ (fat fullShare MSettingsWords′.mir l8 0 u-3) ∷ ‵ (fdies MSettingsWords′.mir l8) ∷ ‵ (fat fullShare (tyRef (named 3) mut (pointee (R-AnswerWords .written))) l7 0 (vptr b7 o7)) ∷ ‵ (fdies (tyRef (named 3) mut (pointee (R-AnswerWords .written))) l7) ∷ ‵ (froom MStamp′.mir l6 0) ∷ ‵ (fdies MStamp′.mir l6) ∷ ‵ (froom (tyInt w16) l5 0) ∷ ‵ (fdies (tyInt w16) l5) ∷ ‵ (froom (tyInt w64) l4 0) ∷ ‵ (fdies (tyInt w64) l4) ∷ ‵ (fat fullShare (tyRef (named 2) mut (pointee (R-Watch .written))) l3 0 (vptr b3 o3)) ∷ ‵ (fdies (tyRef (named 2) mut (pointee (R-Watch .written))) l3) ∷ ‵ (fat fullShare (tyRef (named 1) mut (pointee (R-Servo .written))) l2 0 (vptr b2 o2)) ∷ ‵ (fdies (tyRef (named 1) mut (pointee (R-Servo .written))) l2) ∷ ‵ (fat fullShare (tyRef (named 0) mut (pointee (R-UnitWords .written))) l1 0 (vptr b1 o1)) ∷ ‵ (fdies (tyRef (named 0) mut (pointee (R-UnitWords .written))) l1) ∷ ‵ (froom tyUnit l0 0) ∷ ‵ (fdies tyUnit l0) ∷ []) (runs C Λ En mir′.t-9 (atRet En Post))
       from-9 u-3 g-4 u-7 g-8 u-11 g-12 u-15 g-16 p-18 w-17 e-19 is-20 left1 =
           opens ! tt R-UnitWords {h = h1} b1 o1 (λ vs-27.
           move ! (1 ∷ []) $
@@ -1412,7 +1414,7 @@ module _ {M : Type 1} (𝓤 : URA M) (H : Heap 𝓤) (A : Atoms 𝓤) (W : Given
           move ! (1 ∷ []) $
           use1 W (‵ (fat fullShare MUnitWords′.mir b1 o1 (only vs-27))) (W .laws .raw-at fullShare MUnitWords′.mir b1 o1 (only vs-27)) $
           rewrite ! 0 (λ (u : Val). ‵ (fat fullShare MUnitWords′.mir b1 o1 u)) ((parts-UnitWords h1 (only vs-27) (one-UnitWords h1 vs-27 g-28)) .whole-is) refl $
-          assigns ! (of-opd ! (load ! (from ! (fld ! {τ = MStateWords′.mir} {d = off-Told-2} field-Told-2 (stop !))) (look-in ! 40 (sub ! {ν = name-of MTold′.mir} {τs = tys-of MTold′.mir} 2 {τ = MStateWords′.mir} {d = off-Told-2} field-Told-2 (whole !))))) (from ! (hop ! (look ! 62 refl) (fld ! {τ = MStateWords′.mir} {d = off-UnitWords-1} field-UnitWords-1 (stop !)))) (store-in ! 0 (sub ! {ν = name-of MUnitWords′.mir} {τs = tys-of MUnitWords′.mir} 1 {τ = MStateWords′.mir} {d = off-UnitWords-1} field-UnitWords-1 (whole !)) (lawful-StateWords 𝓤 H A W .typed (p-18 .state) _ ((parts-Told p-18 w-17 is-20) .pg2) .0)) $
+          assigns ! (of-opd ! (load ! (from ! (fld ! {τ = MStateWords′.mir} {d = off-Told-2} field-Told-2 (stop !))) (look-in ! 48 (sub ! {ν = name-of MTold′.mir} {τs = tys-of MTold′.mir} 2 {τ = MStateWords′.mir} {d = off-Told-2} field-Told-2 (whole !))))) (from ! (hop ! (look ! 70 refl) (fld ! {τ = MStateWords′.mir} {d = off-UnitWords-1} field-UnitWords-1 (stop !)))) (store-in ! 0 (sub ! {ν = name-of MUnitWords′.mir} {τs = tys-of MUnitWords′.mir} 1 {τ = MStateWords′.mir} {d = off-UnitWords-1} field-UnitWords-1 (whole !)) (lawful-StateWords 𝓤 H A W .typed (p-18 .state) _ ((parts-Told p-18 w-17 is-20) .pg2) .0)) $
           use1 W (‵ (cellAt fullShare (R-UnitWords .mir) ((vstruct (ofList (((parts-UnitWords h1 (only vs-27) (one-UnitWords h1 vs-27 g-28)) .pu0) ∷ ((parts-Told p-18 w-17 is-20) .pu2) ∷ ((parts-UnitWords h1 (only vs-27) (one-UnitWords h1 vs-27 g-28)) .pu2) ∷ ((parts-UnitWords h1 (only vs-27) (one-UnitWords h1 vs-27 g-28)) .pu3) ∷ []))) ∷ []) b1 o1)) (W .laws .at-raw fullShare MUnitWords′.mir b1 o1 (vstruct (ofList (((parts-UnitWords h1 (only vs-27) (one-UnitWords h1 vs-27 g-28)) .pu0) ∷ ((parts-Told p-18 w-17 is-20) .pu2) ∷ ((parts-UnitWords h1 (only vs-27) (one-UnitWords h1 vs-27 g-28)) .pu2) ∷ ((parts-UnitWords h1 (only vs-27) (one-UnitWords h1 vs-27 g-28)) .pu3) ∷ [])))) $
           move ! (1 ∷ []) $
           drop ! $
@@ -1421,22 +1423,22 @@ module _ {M : Type 1} (𝓤 : URA M) (H : Heap 𝓤) (A : Atoms 𝓤) (W : Given
           closes ! tt R-UnitWords (with-UnitWords-1 h1 (p-18 .state)) ((vstruct (ofList (((parts-UnitWords h1 (only vs-27) (one-UnitWords h1 vs-27 g-28)) .pu0) ∷ ((parts-Told p-18 w-17 is-20) .pu2) ∷ ((parts-UnitWords h1 (only vs-27) (one-UnitWords h1 vs-27 g-28)) .pu2) ∷ ((parts-UnitWords h1 (only vs-27) (one-UnitWords h1 vs-27 g-28)) .pu3) ∷ []))) ∷ []) b1 o1 $
           from-10 u-3 g-4 u-7 g-8 u-11 g-12 u-15 g-16 p-18 w-17 e-19 is-20 left1))
 
-      from-6 : (u-3 : Val) (g-4 : Is R-SettingsWords (h1 .settings) (u-3 ∷ [])) (u-7 : Val) (g-8 : Is R-StateWords (h1 .state) (u-7 ∷ [])) (u-11 : Val) (g-12 : Is R-HalvesWords (h1 .halves) (u-11 ∷ [])) (u-15 : Val) (g-16 : Is R-DelaysWords (h1 .delays) (u-15 ∷ [])) (p-18 : STold.Told) (w-17 : Val) (e-19 : p-18 ≡ sentTold (h1 .settings) (h1 .state) (h1 .halves) (h1 .delays) h4 h5 h6) (is-20 : Is R-Told p-18 (w-17 ∷ [])) → Sq W (‵ (fobs γ1 (R-UnitWords .coded .code h1)) ∷ ‵ (fbor κ1 (Body (mem R-UnitWords) b1 o1 γ1)) ∷ ‵ (flft κ1 q1) ∷ ‵ (flft κ7 q7) ∷ ‵ (flft κ3 q3) ∷ ‵ (flft κ2 q2) ∷ ‵ (ftrue) ∷ ‵ (fobs γ7 (R-AnswerWords .coded .code h7)) ∷ ‵ (fbor κ7 (Body (mem R-AnswerWords) b7 o7 γ7)) ∷ ‵ (R-Stamp .own h6 (u6 ∷ [])) ∷ ‵ (R-u16 .own h5 (u5 ∷ [])) ∷ ‵ (R-u64 .own h4 (u4 ∷ [])) ∷ ‵ (fobs γ3 (R-Watch .coded .code h3)) ∷ ‵ (fbor κ3 (Body (mem R-Watch) b3 o3 γ3)) ∷ ‵ (fobs γ2 (R-Servo .coded .code h2)) ∷ ‵ (fbor κ2 (Body (mem R-Servo) b2 o2 γ2)) ∷ ‵ (froom (tyRef erased mut (pointee (R-u8x128 .written))) l23 0) ∷ ‵ (fdies (tyRef erased mut (pointee (R-u8x128 .written))) l23) ∷ ‵ (froom (tyRef erased mut (pointee (R-i32x128 .written))) l22 0) ∷ ‵ (fdies (tyRef erased mut (pointee (R-i32x128 .written))) l22) ∷ ‵ (froom (tyRef erased mut (pointee (R-i64x128 .written))) l21 0) ∷ ‵ (fdies (tyRef erased mut (pointee (R-i64x128 .written))) l21) ∷ ‵ (froom MHead′.mir l20 0) ∷ ‵ (fdies MHead′.mir l20) ∷ ‵ (froom MAnswerWords′.mir l19 0) ∷ ‵ (fdies MAnswerWords′.mir l19) ∷ ‵ (froom MAnswerWords′.mir l18 0) ∷ ‵ (fdies MAnswerWords′.mir l18) ∷ ‵ (froom tyBool l17 0) ∷ ‵ (fdies tyBool l17) ∷ ‵ (froom tyBool l16 0) ∷ ‵ (fdies tyBool l16) ∷ ‵ (froom MServo′.mir l15 0) ∷ ‵ (fdies MServo′.mir l15) ∷ ‵ (froom MServo′.mir l14 0) ∷ ‵ (fdies MServo′.mir l14) ∷ ‵ (froom tyBool l13 0) ∷ ‵ (fdies tyBool l13) ∷ ‵ (fat fullShare MTold′.mir l12 0 w-17) ∷ ‵ (fdies MTold′.mir l12) ∷ ‵ (froom MDelaysWords′.mir l11 0) ∷ ‵ (fdies MDelaysWords′.mir l11) ∷ ‵ (froom MHalvesWords′.mir l10 0) ∷ ‵ (fdies MHalvesWords′.mir l10) ∷ ‵ (froom MStateWords′.mir l9 0) ∷ ‵ (fdies MStateWords′.mir l9) ∷ ‵ (fat fullShare MSettingsWords′.mir l8 0 u-3) ∷ ‵ (fdies MSettingsWords′.mir l8) ∷ ‵ (fat fullShare (tyRef (named 3) mut (pointee (R-AnswerWords .written))) l7 0 (vptr b7 o7)) ∷ ‵ (fdies (tyRef (named 3) mut (pointee (R-AnswerWords .written))) l7) ∷ ‵ (froom MStamp′.mir l6 0) ∷ ‵ (fdies MStamp′.mir l6) ∷ ‵ (froom (tyInt w16) l5 0) ∷ ‵ (fdies (tyInt w16) l5) ∷ ‵ (froom (tyInt w64) l4 0) ∷ ‵ (fdies (tyInt w64) l4) ∷ ‵ (fat fullShare (tyRef (named 2) mut (pointee (R-Watch .written))) l3 0 (vptr b3 o3)) ∷ ‵ (fdies (tyRef (named 2) mut (pointee (R-Watch .written))) l3) ∷ ‵ (fat fullShare (tyRef (named 1) mut (pointee (R-Servo .written))) l2 0 (vptr b2 o2)) ∷ ‵ (fdies (tyRef (named 1) mut (pointee (R-Servo .written))) l2) ∷ ‵ (fat fullShare (tyRef (named 0) mut (pointee (R-UnitWords .written))) l1 0 (vptr b1 o1)) ∷ ‵ (fdies (tyRef (named 0) mut (pointee (R-UnitWords .written))) l1) ∷ ‵ (froom tyUnit l0 0) ∷ ‵ (fdies tyUnit l0) ∷ []) (runs C Λ En mir′.t-6 (atRet En Post))
+      from-6 : (u-3 : Val) (g-4 : Is R-SettingsWords (h1 .settings) (u-3 ∷ [])) (u-7 : Val) (g-8 : Is R-StateWords (h1 .state) (u-7 ∷ [])) (u-11 : Val) (g-12 : Is R-HalvesWords (h1 .halves) (u-11 ∷ [])) (u-15 : Val) (g-16 : Is R-DelaysWords (h1 .delays) (u-15 ∷ [])) (p-18 : STold.Told) (w-17 : Val) (e-19 : p-18 ≡ sentTold (h1 .settings) (h1 .state) (h1 .halves) (h1 .delays) h4 h5 h6) (is-20 : Is R-Told p-18 (w-17 ∷ [])) → Sq W (‵ (fobs γ1 (R-UnitWords .coded .code h1)) ∷ ‵ (fbor κ1 (Body (mem R-UnitWords) b1 o1 γ1)) ∷ ‵ (flft κ1 q1) ∷ ‵ (flft κ7 q7) ∷ ‵ (flft κ3 q3) ∷ ‵ (flft κ2 q2) ∷ ‵ (ftrue) ∷ ‵ (fobs γ7 (R-AnswerWords .coded .code h7)) ∷ ‵ (fbor κ7 (Body (mem R-AnswerWords) b7 o7 γ7)) ∷ ‵ (R-Stamp .own h6 (u6 ∷ [])) ∷ ‵ (R-u16 .own h5 (u5 ∷ [])) ∷ ‵ (R-u64 .own h4 (u4 ∷ [])) ∷ ‵ (fobs γ3 (R-Watch .coded .code h3)) ∷ ‵ (fbor κ3 (Body (mem R-Watch) b3 o3 γ3)) ∷ ‵ (fobs γ2 (R-Servo .coded .code h2)) ∷ ‵ (fbor κ2 (Body (mem R-Servo) b2 o2 γ2)) ∷ ‵ (froom (tyRef erased mut (pointee (R-u8x128 .written))) l27 0) ∷ ‵ (fdies (tyRef erased mut (pointee (R-u8x128 .written))) l27) ∷ ‵ (froom (tyRef erased mut (pointee (R-i32x128 .written))) l26 0) ∷ ‵ (fdies (tyRef erased mut (pointee (R-i32x128 .written))) l26) ∷ ‵ (froom (tyRef erased mut (pointee (R-i64x128 .written))) l25 0) ∷ ‵ (fdies (tyRef erased mut (pointee (R-i64x128 .written))) l25) ∷ ‵ (froom MHead′.mir l24 0) ∷ ‵ (fdies MHead′.mir l24) ∷ ‵ (froom MAnswerWords′.mir l23 0) ∷ ‵ (fdies MAnswerWords′.mir l23) ∷ ‵ (froom MAnswerWords′.mir l22 0) ∷ ‵ (fdies MAnswerWords′.mir l22) ∷ ‵ (froom tyBool l21 0) ∷ ‵ (fdies tyBool l21) ∷ ‵ (froom (tyInt w16) l20 0) ∷ ‵ (fdies (tyInt w16) l20) ∷ ‵ (froom (tyInt w8) l19 0) ∷ ‵ (fdies (tyInt w8) l19) ∷ ‵ (froom MServo′.mir l18 0) ∷ ‵ (fdies MServo′.mir l18) ∷ ‵ (froom tyBool l17 0) ∷ ‵ (fdies tyBool l17) ∷ ‵ (froom tyBool l16 0) ∷ ‵ (fdies tyBool l16) ∷ ‵ (froom MAccepted′.mir l15 0) ∷ ‵ (fdies MAccepted′.mir l15) ∷ ‵ (froom MServo′.mir l14 0) ∷ ‵ (fdies MServo′.mir l14) ∷ ‵ (froom tyBool l13 0) ∷ ‵ (fdies tyBool l13) ∷ ‵ (fat fullShare MTold′.mir l12 0 w-17) ∷ ‵ (fdies MTold′.mir l12) ∷ ‵ (froom MDelaysWords′.mir l11 0) ∷ ‵ (fdies MDelaysWords′.mir l11) ∷ ‵ (froom MHalvesWords′.mir l10 0) ∷ ‵ (fdies MHalvesWords′.mir l10) ∷ ‵ (froom MStateWords′.mir l9 0) ∷ ‵ (fdies MStateWords′.mir l9) ∷ ‵ (fat fullShare MSettingsWords′.mir l8 0 u-3) ∷ ‵ (fdies MSettingsWords′.mir l8) ∷ ‵ (fat fullShare (tyRef (named 3) mut (pointee (R-AnswerWords .written))) l7 0 (vptr b7 o7)) ∷ ‵ (fdies (tyRef (named 3) mut (pointee (R-AnswerWords .written))) l7) ∷ ‵ (froom MStamp′.mir l6 0) ∷ ‵ (fdies MStamp′.mir l6) ∷ ‵ (froom (tyInt w16) l5 0) ∷ ‵ (fdies (tyInt w16) l5) ∷ ‵ (froom (tyInt w64) l4 0) ∷ ‵ (fdies (tyInt w64) l4) ∷ ‵ (fat fullShare (tyRef (named 2) mut (pointee (R-Watch .written))) l3 0 (vptr b3 o3)) ∷ ‵ (fdies (tyRef (named 2) mut (pointee (R-Watch .written))) l3) ∷ ‵ (fat fullShare (tyRef (named 1) mut (pointee (R-Servo .written))) l2 0 (vptr b2 o2)) ∷ ‵ (fdies (tyRef (named 1) mut (pointee (R-Servo .written))) l2) ∷ ‵ (fat fullShare (tyRef (named 0) mut (pointee (R-UnitWords .written))) l1 0 (vptr b1 o1)) ∷ ‵ (fdies (tyRef (named 0) mut (pointee (R-UnitWords .written))) l1) ∷ ‵ (froom tyUnit l0 0) ∷ ‵ (fdies tyUnit l0) ∷ []) (runs C Λ En mir′.t-6 (atRet En Post))
       from-6 u-3 g-4 u-7 g-8 u-11 g-12 u-15 g-16 p-18 w-17 e-19 is-20 =
-          rewrite ! 38 (λ (u : Val). ‵ (fat fullShare MTold′.mir l12 0 u)) ((parts-Told p-18 w-17 is-20) .whole-is) refl $
-          assigns ! (of-opd ! (load ! (from ! (fld ! {τ = tyBool} {d = off-Told-7} field-Told-7 (stop !))) (look-in ! 38 (sub ! {ν = name-of MTold′.mir} {τs = tys-of MTold′.mir} 7 {τ = tyBool} {d = off-Told-7} field-Told-7 (whole !))))) (from ! (stop !)) (init ! 36 refl (lawful-bool 𝓤 H A W .typed (p-18 .barred) _ ((parts-Told p-18 w-17 is-20) .pg7) .0)) $
-          assigns ! (of-opd ! (load ! (from ! (stop !)) (look ! 36 refl))) (from ! (stop !)) (init ! 28 refl (lawful-bool 𝓤 H A W .typed (p-18 .barred) _ ((parts-Told p-18 w-17 is-20) .pg7) .0)) $
-          rewrite ! 28 (λ (u : Val). ‵ (fat fullShare tyBool l17 0 u)) (ap only (tells-bool (p-18 .barred) (((parts-Told p-18 w-17 is-20) .pu7) ∷ []) ((parts-Told p-18 w-17 is-20) .pg7))) refl $
+          rewrite ! 46 (λ (u : Val). ‵ (fat fullShare MTold′.mir l12 0 u)) ((parts-Told p-18 w-17 is-20) .whole-is) refl $
+          assigns ! (of-opd ! (load ! (from ! (fld ! {τ = tyBool} {d = off-Told-7} field-Told-7 (stop !))) (look-in ! 46 (sub ! {ν = name-of MTold′.mir} {τs = tys-of MTold′.mir} 7 {τ = tyBool} {d = off-Told-7} field-Told-7 (whole !))))) (from ! (stop !)) (init ! 44 refl (lawful-bool 𝓤 H A W .typed (p-18 .barred) _ ((parts-Told p-18 w-17 is-20) .pg7) .0)) $
+          assigns ! (of-opd ! (load ! (from ! (stop !)) (look ! 44 refl))) (from ! (stop !)) (init ! 28 refl (lawful-bool 𝓤 H A W .typed (p-18 .barred) _ ((parts-Told p-18 w-17 is-20) .pg7) .0)) $
+          rewrite ! 28 (λ (u : Val). ‵ (fat fullShare tyBool l21 0 u)) (ap only (tells-bool (p-18 .barred) (((parts-Told p-18 w-17 is-20) .pu7) ∷ []) ((parts-Told p-18 w-17 is-20) .pg7))) refl $
           first ! $ branches ! (load ! (from ! (stop !)) (look ! 28 refl))
-          (λ held1. forget ! 60 refl $ forget ! 58 refl $ forget ! 56 refl $ forget ! 46 refl $ forget ! 36 refl $ forget ! 28 refl $ from-8-1 _ refl u-3 g-4 u-7 g-8 u-11 g-12 u-15 g-16 p-18 w-17 e-19 is-20 held1)
+          (λ held1. forget ! 68 refl $ forget ! 66 refl $ forget ! 64 refl $ forget ! 54 refl $ forget ! 44 refl $ forget ! 28 refl $ from-8-1 _ refl u-3 g-4 u-7 g-8 u-11 g-12 u-15 g-16 p-18 w-17 e-19 is-20 held1)
           (λ left1. skips ! $ exec ! C Λ En mir′.t-9 (atRet En Post) $
-          forget ! 36 refl $ forget ! 28 refl $
+          forget ! 44 refl $ forget ! 28 refl $
           from-9 u-3 g-4 u-7 g-8 u-11 g-12 u-15 g-16 p-18 w-17 e-19 is-20 left1)
 
-      from-5 : (u-3 : Val) (g-4 : Is R-SettingsWords (h1 .settings) (u-3 ∷ [])) (u-7 : Val) (g-8 : Is R-StateWords (h1 .state) (u-7 ∷ [])) (u-11 : Val) (g-12 : Is R-HalvesWords (h1 .halves) (u-11 ∷ [])) (u-15 : Val) (g-16 : Is R-DelaysWords (h1 .delays) (u-15 ∷ [])) → Sq W (‵ (fobs γ1 (R-UnitWords .coded .code h1)) ∷ ‵ (fbor κ1 (Body (mem R-UnitWords) b1 o1 γ1)) ∷ ‵ (flft κ1 q1) ∷ ‵ (flft κ7 q7) ∷ ‵ (flft κ3 q3) ∷ ‵ (flft κ2 q2) ∷ ‵ (ftrue) ∷ ‵ (fobs γ7 (R-AnswerWords .coded .code h7)) ∷ ‵ (fbor κ7 (Body (mem R-AnswerWords) b7 o7 γ7)) ∷ ‵ (R-Stamp .own h6 (u6 ∷ [])) ∷ ‵ (R-u16 .own h5 (u5 ∷ [])) ∷ ‵ (R-u64 .own h4 (u4 ∷ [])) ∷ ‵ (fobs γ3 (R-Watch .coded .code h3)) ∷ ‵ (fbor κ3 (Body (mem R-Watch) b3 o3 γ3)) ∷ ‵ (fobs γ2 (R-Servo .coded .code h2)) ∷ ‵ (fbor κ2 (Body (mem R-Servo) b2 o2 γ2)) ∷ ‵ (froom (tyRef erased mut (pointee (R-u8x128 .written))) l23 0) ∷ ‵ (fdies (tyRef erased mut (pointee (R-u8x128 .written))) l23) ∷ ‵ (froom (tyRef erased mut (pointee (R-i32x128 .written))) l22 0) ∷ ‵ (fdies (tyRef erased mut (pointee (R-i32x128 .written))) l22) ∷ ‵ (froom (tyRef erased mut (pointee (R-i64x128 .written))) l21 0) ∷ ‵ (fdies (tyRef erased mut (pointee (R-i64x128 .written))) l21) ∷ ‵ (froom MHead′.mir l20 0) ∷ ‵ (fdies MHead′.mir l20) ∷ ‵ (froom MAnswerWords′.mir l19 0) ∷ ‵ (fdies MAnswerWords′.mir l19) ∷ ‵ (froom MAnswerWords′.mir l18 0) ∷ ‵ (fdies MAnswerWords′.mir l18) ∷ ‵ (froom tyBool l17 0) ∷ ‵ (fdies tyBool l17) ∷ ‵ (froom tyBool l16 0) ∷ ‵ (fdies tyBool l16) ∷ ‵ (froom MServo′.mir l15 0) ∷ ‵ (fdies MServo′.mir l15) ∷ ‵ (froom MServo′.mir l14 0) ∷ ‵ (fdies MServo′.mir l14) ∷ ‵ (froom tyBool l13 0) ∷ ‵ (fdies tyBool l13) ∷ ‵ (froom MTold′.mir l12 0) ∷ ‵ (fdies MTold′.mir l12) ∷ ‵ (fat fullShare MDelaysWords′.mir l11 0 u-15) ∷ ‵ (fdies MDelaysWords′.mir l11) ∷ ‵ (fat fullShare MHalvesWords′.mir l10 0 u-11) ∷ ‵ (fdies MHalvesWords′.mir l10) ∷ ‵ (fat fullShare MStateWords′.mir l9 0 u-7) ∷ ‵ (fdies MStateWords′.mir l9) ∷ ‵ (fat fullShare MSettingsWords′.mir l8 0 u-3) ∷ ‵ (fdies MSettingsWords′.mir l8) ∷ ‵ (fat fullShare (tyRef (named 3) mut (pointee (R-AnswerWords .written))) l7 0 (vptr b7 o7)) ∷ ‵ (fdies (tyRef (named 3) mut (pointee (R-AnswerWords .written))) l7) ∷ ‵ (fat fullShare MStamp′.mir l6 0 u6) ∷ ‵ (fdies MStamp′.mir l6) ∷ ‵ (fat fullShare (tyInt w16) l5 0 u5) ∷ ‵ (fdies (tyInt w16) l5) ∷ ‵ (fat fullShare (tyInt w64) l4 0 u4) ∷ ‵ (fdies (tyInt w64) l4) ∷ ‵ (fat fullShare (tyRef (named 2) mut (pointee (R-Watch .written))) l3 0 (vptr b3 o3)) ∷ ‵ (fdies (tyRef (named 2) mut (pointee (R-Watch .written))) l3) ∷ ‵ (fat fullShare (tyRef (named 1) mut (pointee (R-Servo .written))) l2 0 (vptr b2 o2)) ∷ ‵ (fdies (tyRef (named 1) mut (pointee (R-Servo .written))) l2) ∷ ‵ (fat fullShare (tyRef (named 0) mut (pointee (R-UnitWords .written))) l1 0 (vptr b1 o1)) ∷ ‵ (fdies (tyRef (named 0) mut (pointee (R-UnitWords .written))) l1) ∷ ‵ (froom tyUnit l0 0) ∷ ‵ (fdies tyUnit l0) ∷ []) (runs C Λ En mir′.t-5 (atRet En Post))
+      from-5 : (u-3 : Val) (g-4 : Is R-SettingsWords (h1 .settings) (u-3 ∷ [])) (u-7 : Val) (g-8 : Is R-StateWords (h1 .state) (u-7 ∷ [])) (u-11 : Val) (g-12 : Is R-HalvesWords (h1 .halves) (u-11 ∷ [])) (u-15 : Val) (g-16 : Is R-DelaysWords (h1 .delays) (u-15 ∷ [])) → Sq W (‵ (fobs γ1 (R-UnitWords .coded .code h1)) ∷ ‵ (fbor κ1 (Body (mem R-UnitWords) b1 o1 γ1)) ∷ ‵ (flft κ1 q1) ∷ ‵ (flft κ7 q7) ∷ ‵ (flft κ3 q3) ∷ ‵ (flft κ2 q2) ∷ ‵ (ftrue) ∷ ‵ (fobs γ7 (R-AnswerWords .coded .code h7)) ∷ ‵ (fbor κ7 (Body (mem R-AnswerWords) b7 o7 γ7)) ∷ ‵ (R-Stamp .own h6 (u6 ∷ [])) ∷ ‵ (R-u16 .own h5 (u5 ∷ [])) ∷ ‵ (R-u64 .own h4 (u4 ∷ [])) ∷ ‵ (fobs γ3 (R-Watch .coded .code h3)) ∷ ‵ (fbor κ3 (Body (mem R-Watch) b3 o3 γ3)) ∷ ‵ (fobs γ2 (R-Servo .coded .code h2)) ∷ ‵ (fbor κ2 (Body (mem R-Servo) b2 o2 γ2)) ∷ ‵ (froom (tyRef erased mut (pointee (R-u8x128 .written))) l27 0) ∷ ‵ (fdies (tyRef erased mut (pointee (R-u8x128 .written))) l27) ∷ ‵ (froom (tyRef erased mut (pointee (R-i32x128 .written))) l26 0) ∷ ‵ (fdies (tyRef erased mut (pointee (R-i32x128 .written))) l26) ∷ ‵ (froom (tyRef erased mut (pointee (R-i64x128 .written))) l25 0) ∷ ‵ (fdies (tyRef erased mut (pointee (R-i64x128 .written))) l25) ∷ ‵ (froom MHead′.mir l24 0) ∷ ‵ (fdies MHead′.mir l24) ∷ ‵ (froom MAnswerWords′.mir l23 0) ∷ ‵ (fdies MAnswerWords′.mir l23) ∷ ‵ (froom MAnswerWords′.mir l22 0) ∷ ‵ (fdies MAnswerWords′.mir l22) ∷ ‵ (froom tyBool l21 0) ∷ ‵ (fdies tyBool l21) ∷ ‵ (froom (tyInt w16) l20 0) ∷ ‵ (fdies (tyInt w16) l20) ∷ ‵ (froom (tyInt w8) l19 0) ∷ ‵ (fdies (tyInt w8) l19) ∷ ‵ (froom MServo′.mir l18 0) ∷ ‵ (fdies MServo′.mir l18) ∷ ‵ (froom tyBool l17 0) ∷ ‵ (fdies tyBool l17) ∷ ‵ (froom tyBool l16 0) ∷ ‵ (fdies tyBool l16) ∷ ‵ (froom MAccepted′.mir l15 0) ∷ ‵ (fdies MAccepted′.mir l15) ∷ ‵ (froom MServo′.mir l14 0) ∷ ‵ (fdies MServo′.mir l14) ∷ ‵ (froom tyBool l13 0) ∷ ‵ (fdies tyBool l13) ∷ ‵ (froom MTold′.mir l12 0) ∷ ‵ (fdies MTold′.mir l12) ∷ ‵ (fat fullShare MDelaysWords′.mir l11 0 u-15) ∷ ‵ (fdies MDelaysWords′.mir l11) ∷ ‵ (fat fullShare MHalvesWords′.mir l10 0 u-11) ∷ ‵ (fdies MHalvesWords′.mir l10) ∷ ‵ (fat fullShare MStateWords′.mir l9 0 u-7) ∷ ‵ (fdies MStateWords′.mir l9) ∷ ‵ (fat fullShare MSettingsWords′.mir l8 0 u-3) ∷ ‵ (fdies MSettingsWords′.mir l8) ∷ ‵ (fat fullShare (tyRef (named 3) mut (pointee (R-AnswerWords .written))) l7 0 (vptr b7 o7)) ∷ ‵ (fdies (tyRef (named 3) mut (pointee (R-AnswerWords .written))) l7) ∷ ‵ (fat fullShare MStamp′.mir l6 0 u6) ∷ ‵ (fdies MStamp′.mir l6) ∷ ‵ (fat fullShare (tyInt w16) l5 0 u5) ∷ ‵ (fdies (tyInt w16) l5) ∷ ‵ (fat fullShare (tyInt w64) l4 0 u4) ∷ ‵ (fdies (tyInt w64) l4) ∷ ‵ (fat fullShare (tyRef (named 2) mut (pointee (R-Watch .written))) l3 0 (vptr b3 o3)) ∷ ‵ (fdies (tyRef (named 2) mut (pointee (R-Watch .written))) l3) ∷ ‵ (fat fullShare (tyRef (named 1) mut (pointee (R-Servo .written))) l2 0 (vptr b2 o2)) ∷ ‵ (fdies (tyRef (named 1) mut (pointee (R-Servo .written))) l2) ∷ ‵ (fat fullShare (tyRef (named 0) mut (pointee (R-UnitWords .written))) l1 0 (vptr b1 o1)) ∷ ‵ (fdies (tyRef (named 0) mut (pointee (R-UnitWords .written))) l1) ∷ ‵ (froom tyUnit l0 0) ∷ ‵ (fdies tyUnit l0) ∷ []) (runs C Λ En mir′.t-5 (atRet En Post))
       from-5 u-3 g-4 u-7 g-8 u-11 g-12 u-15 g-16 =
           use0 W (raw (C-send 𝓤 H A at-mem run .pre (to-send (h1 .settings) u-3 (h1 .state) u-7 (h1 .halves) u-11 (h1 .delays) u-15 h4 u4 h5 u5 h6 u6))) (goes-send (h1 .settings) u-3 g-4 (h1 .state) u-7 g-8 (h1 .halves) u-11 g-12 (h1 .delays) u-15 g-16 h4 u4 g4 h5 u5 g5 h6 u6 g6) $
-          calls-at ! fm (C-send 𝓤 H A at-mem run) known-send (to-send (h1 .settings) u-3 (h1 .state) u-7 (h1 .halves) u-11 (h1 .delays) u-15 h4 u4 h5 u5 h6 u6) (and-then ! (load ! (from ! (stop !)) (look ! 47 refl)) (and-then ! (load ! (from ! (stop !)) (look ! 45 refl)) (and-then ! (load ! (from ! (stop !)) (look ! 43 refl)) (and-then ! (load ! (from ! (stop !)) (look ! 41 refl)) (and-then ! (load ! (from ! (stop !)) (look ! 55 refl)) (and-then ! (load ! (from ! (stop !)) (look ! 53 refl)) (and-then ! (load ! (from ! (stop !)) (look ! 51 refl)) (no-more !)))))))) (λ w-17.
+          calls-at ! fm (C-send 𝓤 H A at-mem run) known-send (to-send (h1 .settings) u-3 (h1 .state) u-7 (h1 .halves) u-11 (h1 .delays) u-15 h4 u4 h5 u5 h6 u6) (and-then ! (load ! (from ! (stop !)) (look ! 55 refl)) (and-then ! (load ! (from ! (stop !)) (look ! 53 refl)) (and-then ! (load ! (from ! (stop !)) (look ! 51 refl)) (and-then ! (load ! (from ! (stop !)) (look ! 49 refl)) (and-then ! (load ! (from ! (stop !)) (look ! 63 refl)) (and-then ! (load ! (from ! (stop !)) (look ! 61 refl)) (and-then ! (load ! (from ! (stop !)) (look ! 59 refl)) (no-more !)))))))) (λ w-17.
           use1 W (later (some (λ (p-18 : STold.Told). (‵ ftrue ⊛ ‵ (R-Told .own p-18 (w-17 ∷ []))) ⊛ raw (ensured 𝓤 H A f-send.ended (f-send.clauses 𝓤 H A at-mem run) tt ((h1 .settings), ((h1 .state), ((h1 .halves), ((h1 .delays), (h4, (h5, (h6, tt))))))) tt p-18)))) (id⊢ 𝓤 _) $ await ! tt $
           pick ! (λ p-18.
           split ! $
@@ -1447,11 +1449,11 @@ module _ {M : Type 1} (𝓤 : URA M) (H : Heap 𝓤) (A : Atoms 𝓤) (W : Given
           drop ! $
           peeks ! R-Told (Is R-Told) (shows 𝓤 H A R-Told) p-18 (w-17 ∷ []) (λ is-20.
           drop ! $
-          land ! (from ! (stop !)) (init ! 38 refl (lawful-Told 𝓤 H A W .typed p-18 _ is-20 .0)) $
-          forget ! 54 refl $ forget ! 52 refl $ forget ! 50 refl $ forget ! 44 refl $ forget ! 42 refl $ forget ! 40 refl $
+          land ! (from ! (stop !)) (init ! 46 refl (lawful-Told 𝓤 H A W .typed p-18 _ is-20 .0)) $
+          forget ! 62 refl $ forget ! 60 refl $ forget ! 58 refl $ forget ! 52 refl $ forget ! 50 refl $ forget ! 48 refl $
           from-6 u-3 g-4 u-7 g-8 u-11 g-12 u-15 g-16 p-18 w-17 e-19 is-20))))
 
-      from-4 : (u-3 : Val) (g-4 : Is R-SettingsWords (h1 .settings) (u-3 ∷ [])) (u-7 : Val) (g-8 : Is R-StateWords (h1 .state) (u-7 ∷ [])) (u-11 : Val) (g-12 : Is R-HalvesWords (h1 .halves) (u-11 ∷ [])) → Sq W (‵ (fobs γ1 (R-UnitWords .coded .code h1)) ∷ ‵ (fbor κ1 (Body (mem R-UnitWords) b1 o1 γ1)) ∷ ‵ (flft κ1 q1) ∷ ‵ (flft κ7 q7) ∷ ‵ (flft κ3 q3) ∷ ‵ (flft κ2 q2) ∷ ‵ (ftrue) ∷ ‵ (fobs γ7 (R-AnswerWords .coded .code h7)) ∷ ‵ (fbor κ7 (Body (mem R-AnswerWords) b7 o7 γ7)) ∷ ‵ (R-Stamp .own h6 (u6 ∷ [])) ∷ ‵ (R-u16 .own h5 (u5 ∷ [])) ∷ ‵ (R-u64 .own h4 (u4 ∷ [])) ∷ ‵ (fobs γ3 (R-Watch .coded .code h3)) ∷ ‵ (fbor κ3 (Body (mem R-Watch) b3 o3 γ3)) ∷ ‵ (fobs γ2 (R-Servo .coded .code h2)) ∷ ‵ (fbor κ2 (Body (mem R-Servo) b2 o2 γ2)) ∷ ‵ (froom (tyRef erased mut (pointee (R-u8x128 .written))) l23 0) ∷ ‵ (fdies (tyRef erased mut (pointee (R-u8x128 .written))) l23) ∷ ‵ (froom (tyRef erased mut (pointee (R-i32x128 .written))) l22 0) ∷ ‵ (fdies (tyRef erased mut (pointee (R-i32x128 .written))) l22) ∷ ‵ (froom (tyRef erased mut (pointee (R-i64x128 .written))) l21 0) ∷ ‵ (fdies (tyRef erased mut (pointee (R-i64x128 .written))) l21) ∷ ‵ (froom MHead′.mir l20 0) ∷ ‵ (fdies MHead′.mir l20) ∷ ‵ (froom MAnswerWords′.mir l19 0) ∷ ‵ (fdies MAnswerWords′.mir l19) ∷ ‵ (froom MAnswerWords′.mir l18 0) ∷ ‵ (fdies MAnswerWords′.mir l18) ∷ ‵ (froom tyBool l17 0) ∷ ‵ (fdies tyBool l17) ∷ ‵ (froom tyBool l16 0) ∷ ‵ (fdies tyBool l16) ∷ ‵ (froom MServo′.mir l15 0) ∷ ‵ (fdies MServo′.mir l15) ∷ ‵ (froom MServo′.mir l14 0) ∷ ‵ (fdies MServo′.mir l14) ∷ ‵ (froom tyBool l13 0) ∷ ‵ (fdies tyBool l13) ∷ ‵ (froom MTold′.mir l12 0) ∷ ‵ (fdies MTold′.mir l12) ∷ ‵ (froom MDelaysWords′.mir l11 0) ∷ ‵ (fdies MDelaysWords′.mir l11) ∷ ‵ (fat fullShare MHalvesWords′.mir l10 0 u-11) ∷ ‵ (fdies MHalvesWords′.mir l10) ∷ ‵ (fat fullShare MStateWords′.mir l9 0 u-7) ∷ ‵ (fdies MStateWords′.mir l9) ∷ ‵ (fat fullShare MSettingsWords′.mir l8 0 u-3) ∷ ‵ (fdies MSettingsWords′.mir l8) ∷ ‵ (fat fullShare (tyRef (named 3) mut (pointee (R-AnswerWords .written))) l7 0 (vptr b7 o7)) ∷ ‵ (fdies (tyRef (named 3) mut (pointee (R-AnswerWords .written))) l7) ∷ ‵ (fat fullShare MStamp′.mir l6 0 u6) ∷ ‵ (fdies MStamp′.mir l6) ∷ ‵ (fat fullShare (tyInt w16) l5 0 u5) ∷ ‵ (fdies (tyInt w16) l5) ∷ ‵ (fat fullShare (tyInt w64) l4 0 u4) ∷ ‵ (fdies (tyInt w64) l4) ∷ ‵ (fat fullShare (tyRef (named 2) mut (pointee (R-Watch .written))) l3 0 (vptr b3 o3)) ∷ ‵ (fdies (tyRef (named 2) mut (pointee (R-Watch .written))) l3) ∷ ‵ (fat fullShare (tyRef (named 1) mut (pointee (R-Servo .written))) l2 0 (vptr b2 o2)) ∷ ‵ (fdies (tyRef (named 1) mut (pointee (R-Servo .written))) l2) ∷ ‵ (fat fullShare (tyRef (named 0) mut (pointee (R-UnitWords .written))) l1 0 (vptr b1 o1)) ∷ ‵ (fdies (tyRef (named 0) mut (pointee (R-UnitWords .written))) l1) ∷ ‵ (froom tyUnit l0 0) ∷ ‵ (fdies tyUnit l0) ∷ []) (runs C Λ En mir′.t-4 (atRet En Post))
+      from-4 : (u-3 : Val) (g-4 : Is R-SettingsWords (h1 .settings) (u-3 ∷ [])) (u-7 : Val) (g-8 : Is R-StateWords (h1 .state) (u-7 ∷ [])) (u-11 : Val) (g-12 : Is R-HalvesWords (h1 .halves) (u-11 ∷ [])) → Sq W (‵ (fobs γ1 (R-UnitWords .coded .code h1)) ∷ ‵ (fbor κ1 (Body (mem R-UnitWords) b1 o1 γ1)) ∷ ‵ (flft κ1 q1) ∷ ‵ (flft κ7 q7) ∷ ‵ (flft κ3 q3) ∷ ‵ (flft κ2 q2) ∷ ‵ (ftrue) ∷ ‵ (fobs γ7 (R-AnswerWords .coded .code h7)) ∷ ‵ (fbor κ7 (Body (mem R-AnswerWords) b7 o7 γ7)) ∷ ‵ (R-Stamp .own h6 (u6 ∷ [])) ∷ ‵ (R-u16 .own h5 (u5 ∷ [])) ∷ ‵ (R-u64 .own h4 (u4 ∷ [])) ∷ ‵ (fobs γ3 (R-Watch .coded .code h3)) ∷ ‵ (fbor κ3 (Body (mem R-Watch) b3 o3 γ3)) ∷ ‵ (fobs γ2 (R-Servo .coded .code h2)) ∷ ‵ (fbor κ2 (Body (mem R-Servo) b2 o2 γ2)) ∷ ‵ (froom (tyRef erased mut (pointee (R-u8x128 .written))) l27 0) ∷ ‵ (fdies (tyRef erased mut (pointee (R-u8x128 .written))) l27) ∷ ‵ (froom (tyRef erased mut (pointee (R-i32x128 .written))) l26 0) ∷ ‵ (fdies (tyRef erased mut (pointee (R-i32x128 .written))) l26) ∷ ‵ (froom (tyRef erased mut (pointee (R-i64x128 .written))) l25 0) ∷ ‵ (fdies (tyRef erased mut (pointee (R-i64x128 .written))) l25) ∷ ‵ (froom MHead′.mir l24 0) ∷ ‵ (fdies MHead′.mir l24) ∷ ‵ (froom MAnswerWords′.mir l23 0) ∷ ‵ (fdies MAnswerWords′.mir l23) ∷ ‵ (froom MAnswerWords′.mir l22 0) ∷ ‵ (fdies MAnswerWords′.mir l22) ∷ ‵ (froom tyBool l21 0) ∷ ‵ (fdies tyBool l21) ∷ ‵ (froom (tyInt w16) l20 0) ∷ ‵ (fdies (tyInt w16) l20) ∷ ‵ (froom (tyInt w8) l19 0) ∷ ‵ (fdies (tyInt w8) l19) ∷ ‵ (froom MServo′.mir l18 0) ∷ ‵ (fdies MServo′.mir l18) ∷ ‵ (froom tyBool l17 0) ∷ ‵ (fdies tyBool l17) ∷ ‵ (froom tyBool l16 0) ∷ ‵ (fdies tyBool l16) ∷ ‵ (froom MAccepted′.mir l15 0) ∷ ‵ (fdies MAccepted′.mir l15) ∷ ‵ (froom MServo′.mir l14 0) ∷ ‵ (fdies MServo′.mir l14) ∷ ‵ (froom tyBool l13 0) ∷ ‵ (fdies tyBool l13) ∷ ‵ (froom MTold′.mir l12 0) ∷ ‵ (fdies MTold′.mir l12) ∷ ‵ (froom MDelaysWords′.mir l11 0) ∷ ‵ (fdies MDelaysWords′.mir l11) ∷ ‵ (fat fullShare MHalvesWords′.mir l10 0 u-11) ∷ ‵ (fdies MHalvesWords′.mir l10) ∷ ‵ (fat fullShare MStateWords′.mir l9 0 u-7) ∷ ‵ (fdies MStateWords′.mir l9) ∷ ‵ (fat fullShare MSettingsWords′.mir l8 0 u-3) ∷ ‵ (fdies MSettingsWords′.mir l8) ∷ ‵ (fat fullShare (tyRef (named 3) mut (pointee (R-AnswerWords .written))) l7 0 (vptr b7 o7)) ∷ ‵ (fdies (tyRef (named 3) mut (pointee (R-AnswerWords .written))) l7) ∷ ‵ (fat fullShare MStamp′.mir l6 0 u6) ∷ ‵ (fdies MStamp′.mir l6) ∷ ‵ (fat fullShare (tyInt w16) l5 0 u5) ∷ ‵ (fdies (tyInt w16) l5) ∷ ‵ (fat fullShare (tyInt w64) l4 0 u4) ∷ ‵ (fdies (tyInt w64) l4) ∷ ‵ (fat fullShare (tyRef (named 2) mut (pointee (R-Watch .written))) l3 0 (vptr b3 o3)) ∷ ‵ (fdies (tyRef (named 2) mut (pointee (R-Watch .written))) l3) ∷ ‵ (fat fullShare (tyRef (named 1) mut (pointee (R-Servo .written))) l2 0 (vptr b2 o2)) ∷ ‵ (fdies (tyRef (named 1) mut (pointee (R-Servo .written))) l2) ∷ ‵ (fat fullShare (tyRef (named 0) mut (pointee (R-UnitWords .written))) l1 0 (vptr b1 o1)) ∷ ‵ (fdies (tyRef (named 0) mut (pointee (R-UnitWords .written))) l1) ∷ ‵ (froom tyUnit l0 0) ∷ ‵ (fdies tyUnit l0) ∷ []) (runs C Λ En mir′.t-4 (atRet En Post))
       from-4 u-3 g-4 u-7 g-8 u-11 g-12 =
           opens ! tt R-UnitWords {h = h1} b1 o1 (λ vs-13.
           move ! (1 ∷ []) $
@@ -1461,13 +1463,13 @@ module _ {M : Type 1} (𝓤 : URA M) (H : Heap 𝓤) (A : Atoms 𝓤) (W : Given
           move ! (1 ∷ []) $
           use1 W (‵ (fat fullShare MUnitWords′.mir b1 o1 (only vs-13))) (W .laws .raw-at fullShare MUnitWords′.mir b1 o1 (only vs-13)) $
           rewrite ! 0 (λ (u : Val). ‵ (fat fullShare MUnitWords′.mir b1 o1 u)) ((parts-UnitWords h1 (only vs-13) (one-UnitWords h1 vs-13 g-14)) .whole-is) refl $
-          assigns ! (of-opd ! (load ! (from ! (hop ! (look ! 62 refl) (fld ! {τ = MDelaysWords′.mir} {d = off-UnitWords-3} field-UnitWords-3 (stop !)))) (look-in ! 0 (sub ! {ν = name-of MUnitWords′.mir} {τs = tys-of MUnitWords′.mir} 3 {τ = MDelaysWords′.mir} {d = off-UnitWords-3} field-UnitWords-3 (whole !))))) (from ! (stop !)) (init ! 42 refl (lawful-DelaysWords 𝓤 H A W .typed (h1 .delays) _ ((parts-UnitWords h1 (only vs-13) (one-UnitWords h1 vs-13 g-14)) .pg3) .0)) $
+          assigns ! (of-opd ! (load ! (from ! (hop ! (look ! 70 refl) (fld ! {τ = MDelaysWords′.mir} {d = off-UnitWords-3} field-UnitWords-3 (stop !)))) (look-in ! 0 (sub ! {ν = name-of MUnitWords′.mir} {τs = tys-of MUnitWords′.mir} 3 {τ = MDelaysWords′.mir} {d = off-UnitWords-3} field-UnitWords-3 (whole !))))) (from ! (stop !)) (init ! 50 refl (lawful-DelaysWords 𝓤 H A W .typed (h1 .delays) _ ((parts-UnitWords h1 (only vs-13) (one-UnitWords h1 vs-13 g-14)) .pg3) .0)) $
           rewrite ! 0 (λ (u : Val). ‵ (fat fullShare MUnitWords′.mir b1 o1 u)) (sym ((parts-UnitWords h1 (only vs-13) (one-UnitWords h1 vs-13 g-14)) .whole-is)) refl $
           use1 W (‵ (cellAt fullShare (R-UnitWords .mir) ((only vs-13) ∷ []) b1 o1)) (W .laws .at-raw fullShare MUnitWords′.mir b1 o1 (only vs-13)) $
           closes ! tt R-UnitWords h1 ((only vs-13) ∷ []) b1 o1 $
           from-5 u-3 g-4 u-7 g-8 u-11 g-12 ((parts-UnitWords h1 (only vs-13) (one-UnitWords h1 vs-13 g-14)) .pu3) ((parts-UnitWords h1 (only vs-13) (one-UnitWords h1 vs-13 g-14)) .pg3)))
 
-      from-3 : (u-3 : Val) (g-4 : Is R-SettingsWords (h1 .settings) (u-3 ∷ [])) (u-7 : Val) (g-8 : Is R-StateWords (h1 .state) (u-7 ∷ [])) → Sq W (‵ (fobs γ1 (R-UnitWords .coded .code h1)) ∷ ‵ (fbor κ1 (Body (mem R-UnitWords) b1 o1 γ1)) ∷ ‵ (flft κ1 q1) ∷ ‵ (flft κ7 q7) ∷ ‵ (flft κ3 q3) ∷ ‵ (flft κ2 q2) ∷ ‵ (ftrue) ∷ ‵ (fobs γ7 (R-AnswerWords .coded .code h7)) ∷ ‵ (fbor κ7 (Body (mem R-AnswerWords) b7 o7 γ7)) ∷ ‵ (R-Stamp .own h6 (u6 ∷ [])) ∷ ‵ (R-u16 .own h5 (u5 ∷ [])) ∷ ‵ (R-u64 .own h4 (u4 ∷ [])) ∷ ‵ (fobs γ3 (R-Watch .coded .code h3)) ∷ ‵ (fbor κ3 (Body (mem R-Watch) b3 o3 γ3)) ∷ ‵ (fobs γ2 (R-Servo .coded .code h2)) ∷ ‵ (fbor κ2 (Body (mem R-Servo) b2 o2 γ2)) ∷ ‵ (froom (tyRef erased mut (pointee (R-u8x128 .written))) l23 0) ∷ ‵ (fdies (tyRef erased mut (pointee (R-u8x128 .written))) l23) ∷ ‵ (froom (tyRef erased mut (pointee (R-i32x128 .written))) l22 0) ∷ ‵ (fdies (tyRef erased mut (pointee (R-i32x128 .written))) l22) ∷ ‵ (froom (tyRef erased mut (pointee (R-i64x128 .written))) l21 0) ∷ ‵ (fdies (tyRef erased mut (pointee (R-i64x128 .written))) l21) ∷ ‵ (froom MHead′.mir l20 0) ∷ ‵ (fdies MHead′.mir l20) ∷ ‵ (froom MAnswerWords′.mir l19 0) ∷ ‵ (fdies MAnswerWords′.mir l19) ∷ ‵ (froom MAnswerWords′.mir l18 0) ∷ ‵ (fdies MAnswerWords′.mir l18) ∷ ‵ (froom tyBool l17 0) ∷ ‵ (fdies tyBool l17) ∷ ‵ (froom tyBool l16 0) ∷ ‵ (fdies tyBool l16) ∷ ‵ (froom MServo′.mir l15 0) ∷ ‵ (fdies MServo′.mir l15) ∷ ‵ (froom MServo′.mir l14 0) ∷ ‵ (fdies MServo′.mir l14) ∷ ‵ (froom tyBool l13 0) ∷ ‵ (fdies tyBool l13) ∷ ‵ (froom MTold′.mir l12 0) ∷ ‵ (fdies MTold′.mir l12) ∷ ‵ (froom MDelaysWords′.mir l11 0) ∷ ‵ (fdies MDelaysWords′.mir l11) ∷ ‵ (froom MHalvesWords′.mir l10 0) ∷ ‵ (fdies MHalvesWords′.mir l10) ∷ ‵ (fat fullShare MStateWords′.mir l9 0 u-7) ∷ ‵ (fdies MStateWords′.mir l9) ∷ ‵ (fat fullShare MSettingsWords′.mir l8 0 u-3) ∷ ‵ (fdies MSettingsWords′.mir l8) ∷ ‵ (fat fullShare (tyRef (named 3) mut (pointee (R-AnswerWords .written))) l7 0 (vptr b7 o7)) ∷ ‵ (fdies (tyRef (named 3) mut (pointee (R-AnswerWords .written))) l7) ∷ ‵ (fat fullShare MStamp′.mir l6 0 u6) ∷ ‵ (fdies MStamp′.mir l6) ∷ ‵ (fat fullShare (tyInt w16) l5 0 u5) ∷ ‵ (fdies (tyInt w16) l5) ∷ ‵ (fat fullShare (tyInt w64) l4 0 u4) ∷ ‵ (fdies (tyInt w64) l4) ∷ ‵ (fat fullShare (tyRef (named 2) mut (pointee (R-Watch .written))) l3 0 (vptr b3 o3)) ∷ ‵ (fdies (tyRef (named 2) mut (pointee (R-Watch .written))) l3) ∷ ‵ (fat fullShare (tyRef (named 1) mut (pointee (R-Servo .written))) l2 0 (vptr b2 o2)) ∷ ‵ (fdies (tyRef (named 1) mut (pointee (R-Servo .written))) l2) ∷ ‵ (fat fullShare (tyRef (named 0) mut (pointee (R-UnitWords .written))) l1 0 (vptr b1 o1)) ∷ ‵ (fdies (tyRef (named 0) mut (pointee (R-UnitWords .written))) l1) ∷ ‵ (froom tyUnit l0 0) ∷ ‵ (fdies tyUnit l0) ∷ []) (runs C Λ En mir′.t-3 (atRet En Post))
+      from-3 : (u-3 : Val) (g-4 : Is R-SettingsWords (h1 .settings) (u-3 ∷ [])) (u-7 : Val) (g-8 : Is R-StateWords (h1 .state) (u-7 ∷ [])) → Sq W (‵ (fobs γ1 (R-UnitWords .coded .code h1)) ∷ ‵ (fbor κ1 (Body (mem R-UnitWords) b1 o1 γ1)) ∷ ‵ (flft κ1 q1) ∷ ‵ (flft κ7 q7) ∷ ‵ (flft κ3 q3) ∷ ‵ (flft κ2 q2) ∷ ‵ (ftrue) ∷ ‵ (fobs γ7 (R-AnswerWords .coded .code h7)) ∷ ‵ (fbor κ7 (Body (mem R-AnswerWords) b7 o7 γ7)) ∷ ‵ (R-Stamp .own h6 (u6 ∷ [])) ∷ ‵ (R-u16 .own h5 (u5 ∷ [])) ∷ ‵ (R-u64 .own h4 (u4 ∷ [])) ∷ ‵ (fobs γ3 (R-Watch .coded .code h3)) ∷ ‵ (fbor κ3 (Body (mem R-Watch) b3 o3 γ3)) ∷ ‵ (fobs γ2 (R-Servo .coded .code h2)) ∷ ‵ (fbor κ2 (Body (mem R-Servo) b2 o2 γ2)) ∷ ‵ (froom (tyRef erased mut (pointee (R-u8x128 .written))) l27 0) ∷ ‵ (fdies (tyRef erased mut (pointee (R-u8x128 .written))) l27) ∷ ‵ (froom (tyRef erased mut (pointee (R-i32x128 .written))) l26 0) ∷ ‵ (fdies (tyRef erased mut (pointee (R-i32x128 .written))) l26) ∷ ‵ (froom (tyRef erased mut (pointee (R-i64x128 .written))) l25 0) ∷ ‵ (fdies (tyRef erased mut (pointee (R-i64x128 .written))) l25) ∷ ‵ (froom MHead′.mir l24 0) ∷ ‵ (fdies MHead′.mir l24) ∷ ‵ (froom MAnswerWords′.mir l23 0) ∷ ‵ (fdies MAnswerWords′.mir l23) ∷ ‵ (froom MAnswerWords′.mir l22 0) ∷ ‵ (fdies MAnswerWords′.mir l22) ∷ ‵ (froom tyBool l21 0) ∷ ‵ (fdies tyBool l21) ∷ ‵ (froom (tyInt w16) l20 0) ∷ ‵ (fdies (tyInt w16) l20) ∷ ‵ (froom (tyInt w8) l19 0) ∷ ‵ (fdies (tyInt w8) l19) ∷ ‵ (froom MServo′.mir l18 0) ∷ ‵ (fdies MServo′.mir l18) ∷ ‵ (froom tyBool l17 0) ∷ ‵ (fdies tyBool l17) ∷ ‵ (froom tyBool l16 0) ∷ ‵ (fdies tyBool l16) ∷ ‵ (froom MAccepted′.mir l15 0) ∷ ‵ (fdies MAccepted′.mir l15) ∷ ‵ (froom MServo′.mir l14 0) ∷ ‵ (fdies MServo′.mir l14) ∷ ‵ (froom tyBool l13 0) ∷ ‵ (fdies tyBool l13) ∷ ‵ (froom MTold′.mir l12 0) ∷ ‵ (fdies MTold′.mir l12) ∷ ‵ (froom MDelaysWords′.mir l11 0) ∷ ‵ (fdies MDelaysWords′.mir l11) ∷ ‵ (froom MHalvesWords′.mir l10 0) ∷ ‵ (fdies MHalvesWords′.mir l10) ∷ ‵ (fat fullShare MStateWords′.mir l9 0 u-7) ∷ ‵ (fdies MStateWords′.mir l9) ∷ ‵ (fat fullShare MSettingsWords′.mir l8 0 u-3) ∷ ‵ (fdies MSettingsWords′.mir l8) ∷ ‵ (fat fullShare (tyRef (named 3) mut (pointee (R-AnswerWords .written))) l7 0 (vptr b7 o7)) ∷ ‵ (fdies (tyRef (named 3) mut (pointee (R-AnswerWords .written))) l7) ∷ ‵ (fat fullShare MStamp′.mir l6 0 u6) ∷ ‵ (fdies MStamp′.mir l6) ∷ ‵ (fat fullShare (tyInt w16) l5 0 u5) ∷ ‵ (fdies (tyInt w16) l5) ∷ ‵ (fat fullShare (tyInt w64) l4 0 u4) ∷ ‵ (fdies (tyInt w64) l4) ∷ ‵ (fat fullShare (tyRef (named 2) mut (pointee (R-Watch .written))) l3 0 (vptr b3 o3)) ∷ ‵ (fdies (tyRef (named 2) mut (pointee (R-Watch .written))) l3) ∷ ‵ (fat fullShare (tyRef (named 1) mut (pointee (R-Servo .written))) l2 0 (vptr b2 o2)) ∷ ‵ (fdies (tyRef (named 1) mut (pointee (R-Servo .written))) l2) ∷ ‵ (fat fullShare (tyRef (named 0) mut (pointee (R-UnitWords .written))) l1 0 (vptr b1 o1)) ∷ ‵ (fdies (tyRef (named 0) mut (pointee (R-UnitWords .written))) l1) ∷ ‵ (froom tyUnit l0 0) ∷ ‵ (fdies tyUnit l0) ∷ []) (runs C Λ En mir′.t-3 (atRet En Post))
       from-3 u-3 g-4 u-7 g-8 =
           opens ! tt R-UnitWords {h = h1} b1 o1 (λ vs-9.
           move ! (1 ∷ []) $
@@ -1477,13 +1479,13 @@ module _ {M : Type 1} (𝓤 : URA M) (H : Heap 𝓤) (A : Atoms 𝓤) (W : Given
           move ! (1 ∷ []) $
           use1 W (‵ (fat fullShare MUnitWords′.mir b1 o1 (only vs-9))) (W .laws .raw-at fullShare MUnitWords′.mir b1 o1 (only vs-9)) $
           rewrite ! 0 (λ (u : Val). ‵ (fat fullShare MUnitWords′.mir b1 o1 u)) ((parts-UnitWords h1 (only vs-9) (one-UnitWords h1 vs-9 g-10)) .whole-is) refl $
-          assigns ! (of-opd ! (load ! (from ! (hop ! (look ! 62 refl) (fld ! {τ = MHalvesWords′.mir} {d = off-UnitWords-2} field-UnitWords-2 (stop !)))) (look-in ! 0 (sub ! {ν = name-of MUnitWords′.mir} {τs = tys-of MUnitWords′.mir} 2 {τ = MHalvesWords′.mir} {d = off-UnitWords-2} field-UnitWords-2 (whole !))))) (from ! (stop !)) (init ! 44 refl (lawful-HalvesWords 𝓤 H A W .typed (h1 .halves) _ ((parts-UnitWords h1 (only vs-9) (one-UnitWords h1 vs-9 g-10)) .pg2) .0)) $
+          assigns ! (of-opd ! (load ! (from ! (hop ! (look ! 70 refl) (fld ! {τ = MHalvesWords′.mir} {d = off-UnitWords-2} field-UnitWords-2 (stop !)))) (look-in ! 0 (sub ! {ν = name-of MUnitWords′.mir} {τs = tys-of MUnitWords′.mir} 2 {τ = MHalvesWords′.mir} {d = off-UnitWords-2} field-UnitWords-2 (whole !))))) (from ! (stop !)) (init ! 52 refl (lawful-HalvesWords 𝓤 H A W .typed (h1 .halves) _ ((parts-UnitWords h1 (only vs-9) (one-UnitWords h1 vs-9 g-10)) .pg2) .0)) $
           rewrite ! 0 (λ (u : Val). ‵ (fat fullShare MUnitWords′.mir b1 o1 u)) (sym ((parts-UnitWords h1 (only vs-9) (one-UnitWords h1 vs-9 g-10)) .whole-is)) refl $
           use1 W (‵ (cellAt fullShare (R-UnitWords .mir) ((only vs-9) ∷ []) b1 o1)) (W .laws .at-raw fullShare MUnitWords′.mir b1 o1 (only vs-9)) $
           closes ! tt R-UnitWords h1 ((only vs-9) ∷ []) b1 o1 $
           from-4 u-3 g-4 u-7 g-8 ((parts-UnitWords h1 (only vs-9) (one-UnitWords h1 vs-9 g-10)) .pu2) ((parts-UnitWords h1 (only vs-9) (one-UnitWords h1 vs-9 g-10)) .pg2)))
 
-      from-2 : (u-3 : Val) (g-4 : Is R-SettingsWords (h1 .settings) (u-3 ∷ [])) → Sq W (‵ (fobs γ1 (R-UnitWords .coded .code h1)) ∷ ‵ (fbor κ1 (Body (mem R-UnitWords) b1 o1 γ1)) ∷ ‵ (flft κ1 q1) ∷ ‵ (flft κ7 q7) ∷ ‵ (flft κ3 q3) ∷ ‵ (flft κ2 q2) ∷ ‵ (ftrue) ∷ ‵ (fobs γ7 (R-AnswerWords .coded .code h7)) ∷ ‵ (fbor κ7 (Body (mem R-AnswerWords) b7 o7 γ7)) ∷ ‵ (R-Stamp .own h6 (u6 ∷ [])) ∷ ‵ (R-u16 .own h5 (u5 ∷ [])) ∷ ‵ (R-u64 .own h4 (u4 ∷ [])) ∷ ‵ (fobs γ3 (R-Watch .coded .code h3)) ∷ ‵ (fbor κ3 (Body (mem R-Watch) b3 o3 γ3)) ∷ ‵ (fobs γ2 (R-Servo .coded .code h2)) ∷ ‵ (fbor κ2 (Body (mem R-Servo) b2 o2 γ2)) ∷ ‵ (froom (tyRef erased mut (pointee (R-u8x128 .written))) l23 0) ∷ ‵ (fdies (tyRef erased mut (pointee (R-u8x128 .written))) l23) ∷ ‵ (froom (tyRef erased mut (pointee (R-i32x128 .written))) l22 0) ∷ ‵ (fdies (tyRef erased mut (pointee (R-i32x128 .written))) l22) ∷ ‵ (froom (tyRef erased mut (pointee (R-i64x128 .written))) l21 0) ∷ ‵ (fdies (tyRef erased mut (pointee (R-i64x128 .written))) l21) ∷ ‵ (froom MHead′.mir l20 0) ∷ ‵ (fdies MHead′.mir l20) ∷ ‵ (froom MAnswerWords′.mir l19 0) ∷ ‵ (fdies MAnswerWords′.mir l19) ∷ ‵ (froom MAnswerWords′.mir l18 0) ∷ ‵ (fdies MAnswerWords′.mir l18) ∷ ‵ (froom tyBool l17 0) ∷ ‵ (fdies tyBool l17) ∷ ‵ (froom tyBool l16 0) ∷ ‵ (fdies tyBool l16) ∷ ‵ (froom MServo′.mir l15 0) ∷ ‵ (fdies MServo′.mir l15) ∷ ‵ (froom MServo′.mir l14 0) ∷ ‵ (fdies MServo′.mir l14) ∷ ‵ (froom tyBool l13 0) ∷ ‵ (fdies tyBool l13) ∷ ‵ (froom MTold′.mir l12 0) ∷ ‵ (fdies MTold′.mir l12) ∷ ‵ (froom MDelaysWords′.mir l11 0) ∷ ‵ (fdies MDelaysWords′.mir l11) ∷ ‵ (froom MHalvesWords′.mir l10 0) ∷ ‵ (fdies MHalvesWords′.mir l10) ∷ ‵ (froom MStateWords′.mir l9 0) ∷ ‵ (fdies MStateWords′.mir l9) ∷ ‵ (fat fullShare MSettingsWords′.mir l8 0 u-3) ∷ ‵ (fdies MSettingsWords′.mir l8) ∷ ‵ (fat fullShare (tyRef (named 3) mut (pointee (R-AnswerWords .written))) l7 0 (vptr b7 o7)) ∷ ‵ (fdies (tyRef (named 3) mut (pointee (R-AnswerWords .written))) l7) ∷ ‵ (fat fullShare MStamp′.mir l6 0 u6) ∷ ‵ (fdies MStamp′.mir l6) ∷ ‵ (fat fullShare (tyInt w16) l5 0 u5) ∷ ‵ (fdies (tyInt w16) l5) ∷ ‵ (fat fullShare (tyInt w64) l4 0 u4) ∷ ‵ (fdies (tyInt w64) l4) ∷ ‵ (fat fullShare (tyRef (named 2) mut (pointee (R-Watch .written))) l3 0 (vptr b3 o3)) ∷ ‵ (fdies (tyRef (named 2) mut (pointee (R-Watch .written))) l3) ∷ ‵ (fat fullShare (tyRef (named 1) mut (pointee (R-Servo .written))) l2 0 (vptr b2 o2)) ∷ ‵ (fdies (tyRef (named 1) mut (pointee (R-Servo .written))) l2) ∷ ‵ (fat fullShare (tyRef (named 0) mut (pointee (R-UnitWords .written))) l1 0 (vptr b1 o1)) ∷ ‵ (fdies (tyRef (named 0) mut (pointee (R-UnitWords .written))) l1) ∷ ‵ (froom tyUnit l0 0) ∷ ‵ (fdies tyUnit l0) ∷ []) (runs C Λ En mir′.t-2 (atRet En Post))
+      from-2 : (u-3 : Val) (g-4 : Is R-SettingsWords (h1 .settings) (u-3 ∷ [])) → Sq W (‵ (fobs γ1 (R-UnitWords .coded .code h1)) ∷ ‵ (fbor κ1 (Body (mem R-UnitWords) b1 o1 γ1)) ∷ ‵ (flft κ1 q1) ∷ ‵ (flft κ7 q7) ∷ ‵ (flft κ3 q3) ∷ ‵ (flft κ2 q2) ∷ ‵ (ftrue) ∷ ‵ (fobs γ7 (R-AnswerWords .coded .code h7)) ∷ ‵ (fbor κ7 (Body (mem R-AnswerWords) b7 o7 γ7)) ∷ ‵ (R-Stamp .own h6 (u6 ∷ [])) ∷ ‵ (R-u16 .own h5 (u5 ∷ [])) ∷ ‵ (R-u64 .own h4 (u4 ∷ [])) ∷ ‵ (fobs γ3 (R-Watch .coded .code h3)) ∷ ‵ (fbor κ3 (Body (mem R-Watch) b3 o3 γ3)) ∷ ‵ (fobs γ2 (R-Servo .coded .code h2)) ∷ ‵ (fbor κ2 (Body (mem R-Servo) b2 o2 γ2)) ∷ ‵ (froom (tyRef erased mut (pointee (R-u8x128 .written))) l27 0) ∷ ‵ (fdies (tyRef erased mut (pointee (R-u8x128 .written))) l27) ∷ ‵ (froom (tyRef erased mut (pointee (R-i32x128 .written))) l26 0) ∷ ‵ (fdies (tyRef erased mut (pointee (R-i32x128 .written))) l26) ∷ ‵ (froom (tyRef erased mut (pointee (R-i64x128 .written))) l25 0) ∷ ‵ (fdies (tyRef erased mut (pointee (R-i64x128 .written))) l25) ∷ ‵ (froom MHead′.mir l24 0) ∷ ‵ (fdies MHead′.mir l24) ∷ ‵ (froom MAnswerWords′.mir l23 0) ∷ ‵ (fdies MAnswerWords′.mir l23) ∷ ‵ (froom MAnswerWords′.mir l22 0) ∷ ‵ (fdies MAnswerWords′.mir l22) ∷ ‵ (froom tyBool l21 0) ∷ ‵ (fdies tyBool l21) ∷ ‵ (froom (tyInt w16) l20 0) ∷ ‵ (fdies (tyInt w16) l20) ∷ ‵ (froom (tyInt w8) l19 0) ∷ ‵ (fdies (tyInt w8) l19) ∷ ‵ (froom MServo′.mir l18 0) ∷ ‵ (fdies MServo′.mir l18) ∷ ‵ (froom tyBool l17 0) ∷ ‵ (fdies tyBool l17) ∷ ‵ (froom tyBool l16 0) ∷ ‵ (fdies tyBool l16) ∷ ‵ (froom MAccepted′.mir l15 0) ∷ ‵ (fdies MAccepted′.mir l15) ∷ ‵ (froom MServo′.mir l14 0) ∷ ‵ (fdies MServo′.mir l14) ∷ ‵ (froom tyBool l13 0) ∷ ‵ (fdies tyBool l13) ∷ ‵ (froom MTold′.mir l12 0) ∷ ‵ (fdies MTold′.mir l12) ∷ ‵ (froom MDelaysWords′.mir l11 0) ∷ ‵ (fdies MDelaysWords′.mir l11) ∷ ‵ (froom MHalvesWords′.mir l10 0) ∷ ‵ (fdies MHalvesWords′.mir l10) ∷ ‵ (froom MStateWords′.mir l9 0) ∷ ‵ (fdies MStateWords′.mir l9) ∷ ‵ (fat fullShare MSettingsWords′.mir l8 0 u-3) ∷ ‵ (fdies MSettingsWords′.mir l8) ∷ ‵ (fat fullShare (tyRef (named 3) mut (pointee (R-AnswerWords .written))) l7 0 (vptr b7 o7)) ∷ ‵ (fdies (tyRef (named 3) mut (pointee (R-AnswerWords .written))) l7) ∷ ‵ (fat fullShare MStamp′.mir l6 0 u6) ∷ ‵ (fdies MStamp′.mir l6) ∷ ‵ (fat fullShare (tyInt w16) l5 0 u5) ∷ ‵ (fdies (tyInt w16) l5) ∷ ‵ (fat fullShare (tyInt w64) l4 0 u4) ∷ ‵ (fdies (tyInt w64) l4) ∷ ‵ (fat fullShare (tyRef (named 2) mut (pointee (R-Watch .written))) l3 0 (vptr b3 o3)) ∷ ‵ (fdies (tyRef (named 2) mut (pointee (R-Watch .written))) l3) ∷ ‵ (fat fullShare (tyRef (named 1) mut (pointee (R-Servo .written))) l2 0 (vptr b2 o2)) ∷ ‵ (fdies (tyRef (named 1) mut (pointee (R-Servo .written))) l2) ∷ ‵ (fat fullShare (tyRef (named 0) mut (pointee (R-UnitWords .written))) l1 0 (vptr b1 o1)) ∷ ‵ (fdies (tyRef (named 0) mut (pointee (R-UnitWords .written))) l1) ∷ ‵ (froom tyUnit l0 0) ∷ ‵ (fdies tyUnit l0) ∷ []) (runs C Λ En mir′.t-2 (atRet En Post))
       from-2 u-3 g-4 =
           opens ! tt R-UnitWords {h = h1} b1 o1 (λ vs-5.
           move ! (1 ∷ []) $
@@ -1493,15 +1495,15 @@ module _ {M : Type 1} (𝓤 : URA M) (H : Heap 𝓤) (A : Atoms 𝓤) (W : Given
           move ! (1 ∷ []) $
           use1 W (‵ (fat fullShare MUnitWords′.mir b1 o1 (only vs-5))) (W .laws .raw-at fullShare MUnitWords′.mir b1 o1 (only vs-5)) $
           rewrite ! 0 (λ (u : Val). ‵ (fat fullShare MUnitWords′.mir b1 o1 u)) ((parts-UnitWords h1 (only vs-5) (one-UnitWords h1 vs-5 g-6)) .whole-is) refl $
-          assigns ! (of-opd ! (load ! (from ! (hop ! (look ! 62 refl) (fld ! {τ = MStateWords′.mir} {d = off-UnitWords-1} field-UnitWords-1 (stop !)))) (look-in ! 0 (sub ! {ν = name-of MUnitWords′.mir} {τs = tys-of MUnitWords′.mir} 1 {τ = MStateWords′.mir} {d = off-UnitWords-1} field-UnitWords-1 (whole !))))) (from ! (stop !)) (init ! 46 refl (lawful-StateWords 𝓤 H A W .typed (h1 .state) _ ((parts-UnitWords h1 (only vs-5) (one-UnitWords h1 vs-5 g-6)) .pg1) .0)) $
+          assigns ! (of-opd ! (load ! (from ! (hop ! (look ! 70 refl) (fld ! {τ = MStateWords′.mir} {d = off-UnitWords-1} field-UnitWords-1 (stop !)))) (look-in ! 0 (sub ! {ν = name-of MUnitWords′.mir} {τs = tys-of MUnitWords′.mir} 1 {τ = MStateWords′.mir} {d = off-UnitWords-1} field-UnitWords-1 (whole !))))) (from ! (stop !)) (init ! 54 refl (lawful-StateWords 𝓤 H A W .typed (h1 .state) _ ((parts-UnitWords h1 (only vs-5) (one-UnitWords h1 vs-5 g-6)) .pg1) .0)) $
           rewrite ! 0 (λ (u : Val). ‵ (fat fullShare MUnitWords′.mir b1 o1 u)) (sym ((parts-UnitWords h1 (only vs-5) (one-UnitWords h1 vs-5 g-6)) .whole-is)) refl $
           use1 W (‵ (cellAt fullShare (R-UnitWords .mir) ((only vs-5) ∷ []) b1 o1)) (W .laws .at-raw fullShare MUnitWords′.mir b1 o1 (only vs-5)) $
           closes ! tt R-UnitWords h1 ((only vs-5) ∷ []) b1 o1 $
           from-3 u-3 g-4 ((parts-UnitWords h1 (only vs-5) (one-UnitWords h1 vs-5 g-6)) .pu1) ((parts-UnitWords h1 (only vs-5) (one-UnitWords h1 vs-5 g-6)) .pg1)))
 
-      from-1 : Sq W (‵ (froom (tyRef erased mut (pointee (R-u8x128 .written))) l23 0) ∷ ‵ (fdies (tyRef erased mut (pointee (R-u8x128 .written))) l23) ∷ ‵ (froom (tyRef erased mut (pointee (R-i32x128 .written))) l22 0) ∷ ‵ (fdies (tyRef erased mut (pointee (R-i32x128 .written))) l22) ∷ ‵ (froom (tyRef erased mut (pointee (R-i64x128 .written))) l21 0) ∷ ‵ (fdies (tyRef erased mut (pointee (R-i64x128 .written))) l21) ∷ ‵ (froom MHead′.mir l20 0) ∷ ‵ (fdies MHead′.mir l20) ∷ ‵ (froom MAnswerWords′.mir l19 0) ∷ ‵ (fdies MAnswerWords′.mir l19) ∷ ‵ (froom MAnswerWords′.mir l18 0) ∷ ‵ (fdies MAnswerWords′.mir l18) ∷ ‵ (froom tyBool l17 0) ∷ ‵ (fdies tyBool l17) ∷ ‵ (froom tyBool l16 0) ∷ ‵ (fdies tyBool l16) ∷ ‵ (froom MServo′.mir l15 0) ∷ ‵ (fdies MServo′.mir l15) ∷ ‵ (froom MServo′.mir l14 0) ∷ ‵ (fdies MServo′.mir l14) ∷ ‵ (froom tyBool l13 0) ∷ ‵ (fdies tyBool l13) ∷ ‵ (froom MTold′.mir l12 0) ∷ ‵ (fdies MTold′.mir l12) ∷ ‵ (froom MDelaysWords′.mir l11 0) ∷ ‵ (fdies MDelaysWords′.mir l11) ∷ ‵ (froom MHalvesWords′.mir l10 0) ∷ ‵ (fdies MHalvesWords′.mir l10) ∷ ‵ (froom MStateWords′.mir l9 0) ∷ ‵ (fdies MStateWords′.mir l9) ∷ ‵ (froom MSettingsWords′.mir l8 0) ∷ ‵ (fdies MSettingsWords′.mir l8) ∷ ‵ (fat fullShare (tyRef (named 3) mut (pointee (R-AnswerWords .written))) l7 0 (vptr b7 o7)) ∷ ‵ (fdies (tyRef (named 3) mut (pointee (R-AnswerWords .written))) l7) ∷ ‵ (fat fullShare MStamp′.mir l6 0 u6) ∷ ‵ (fdies MStamp′.mir l6) ∷ ‵ (fat fullShare (tyInt w16) l5 0 u5) ∷ ‵ (fdies (tyInt w16) l5) ∷ ‵ (fat fullShare (tyInt w64) l4 0 u4) ∷ ‵ (fdies (tyInt w64) l4) ∷ ‵ (fat fullShare (tyRef (named 2) mut (pointee (R-Watch .written))) l3 0 (vptr b3 o3)) ∷ ‵ (fdies (tyRef (named 2) mut (pointee (R-Watch .written))) l3) ∷ ‵ (fat fullShare (tyRef (named 1) mut (pointee (R-Servo .written))) l2 0 (vptr b2 o2)) ∷ ‵ (fdies (tyRef (named 1) mut (pointee (R-Servo .written))) l2) ∷ ‵ (fat fullShare (tyRef (named 0) mut (pointee (R-UnitWords .written))) l1 0 (vptr b1 o1)) ∷ ‵ (fdies (tyRef (named 0) mut (pointee (R-UnitWords .written))) l1) ∷ ‵ (froom tyUnit l0 0) ∷ ‵ (fdies tyUnit l0) ∷ (‵ (flft κ1 q1) ⊛ ‵ (flft κ2 q2) ⊛ ‵ (flft κ3 q3) ⊛ ‵ (flft κ7 q7) ⊛ ‵ ftrue) ∷ ‵ (owns (MutRef (named 0) κ1 R-UnitWords ∷ MutRef (named 1) κ2 R-Servo ∷ MutRef (named 2) κ3 R-Watch ∷ R-u64 ∷ R-u16 ∷ R-Stamp ∷ MutRef (named 3) κ7 R-AnswerWords ∷ []) x at) ∷ []) (runs C Λ En mir′.t-1 (atRet En Post))
+      from-1 : Sq W (‵ (froom (tyRef erased mut (pointee (R-u8x128 .written))) l27 0) ∷ ‵ (fdies (tyRef erased mut (pointee (R-u8x128 .written))) l27) ∷ ‵ (froom (tyRef erased mut (pointee (R-i32x128 .written))) l26 0) ∷ ‵ (fdies (tyRef erased mut (pointee (R-i32x128 .written))) l26) ∷ ‵ (froom (tyRef erased mut (pointee (R-i64x128 .written))) l25 0) ∷ ‵ (fdies (tyRef erased mut (pointee (R-i64x128 .written))) l25) ∷ ‵ (froom MHead′.mir l24 0) ∷ ‵ (fdies MHead′.mir l24) ∷ ‵ (froom MAnswerWords′.mir l23 0) ∷ ‵ (fdies MAnswerWords′.mir l23) ∷ ‵ (froom MAnswerWords′.mir l22 0) ∷ ‵ (fdies MAnswerWords′.mir l22) ∷ ‵ (froom tyBool l21 0) ∷ ‵ (fdies tyBool l21) ∷ ‵ (froom (tyInt w16) l20 0) ∷ ‵ (fdies (tyInt w16) l20) ∷ ‵ (froom (tyInt w8) l19 0) ∷ ‵ (fdies (tyInt w8) l19) ∷ ‵ (froom MServo′.mir l18 0) ∷ ‵ (fdies MServo′.mir l18) ∷ ‵ (froom tyBool l17 0) ∷ ‵ (fdies tyBool l17) ∷ ‵ (froom tyBool l16 0) ∷ ‵ (fdies tyBool l16) ∷ ‵ (froom MAccepted′.mir l15 0) ∷ ‵ (fdies MAccepted′.mir l15) ∷ ‵ (froom MServo′.mir l14 0) ∷ ‵ (fdies MServo′.mir l14) ∷ ‵ (froom tyBool l13 0) ∷ ‵ (fdies tyBool l13) ∷ ‵ (froom MTold′.mir l12 0) ∷ ‵ (fdies MTold′.mir l12) ∷ ‵ (froom MDelaysWords′.mir l11 0) ∷ ‵ (fdies MDelaysWords′.mir l11) ∷ ‵ (froom MHalvesWords′.mir l10 0) ∷ ‵ (fdies MHalvesWords′.mir l10) ∷ ‵ (froom MStateWords′.mir l9 0) ∷ ‵ (fdies MStateWords′.mir l9) ∷ ‵ (froom MSettingsWords′.mir l8 0) ∷ ‵ (fdies MSettingsWords′.mir l8) ∷ ‵ (fat fullShare (tyRef (named 3) mut (pointee (R-AnswerWords .written))) l7 0 (vptr b7 o7)) ∷ ‵ (fdies (tyRef (named 3) mut (pointee (R-AnswerWords .written))) l7) ∷ ‵ (fat fullShare MStamp′.mir l6 0 u6) ∷ ‵ (fdies MStamp′.mir l6) ∷ ‵ (fat fullShare (tyInt w16) l5 0 u5) ∷ ‵ (fdies (tyInt w16) l5) ∷ ‵ (fat fullShare (tyInt w64) l4 0 u4) ∷ ‵ (fdies (tyInt w64) l4) ∷ ‵ (fat fullShare (tyRef (named 2) mut (pointee (R-Watch .written))) l3 0 (vptr b3 o3)) ∷ ‵ (fdies (tyRef (named 2) mut (pointee (R-Watch .written))) l3) ∷ ‵ (fat fullShare (tyRef (named 1) mut (pointee (R-Servo .written))) l2 0 (vptr b2 o2)) ∷ ‵ (fdies (tyRef (named 1) mut (pointee (R-Servo .written))) l2) ∷ ‵ (fat fullShare (tyRef (named 0) mut (pointee (R-UnitWords .written))) l1 0 (vptr b1 o1)) ∷ ‵ (fdies (tyRef (named 0) mut (pointee (R-UnitWords .written))) l1) ∷ ‵ (froom tyUnit l0 0) ∷ ‵ (fdies tyUnit l0) ∷ (‵ (flft κ1 q1) ⊛ ‵ (flft κ2 q2) ⊛ ‵ (flft κ3 q3) ⊛ ‵ (flft κ7 q7) ⊛ ‵ ftrue) ∷ ‵ (owns (MutRef (named 0) κ1 R-UnitWords ∷ MutRef (named 1) κ2 R-Servo ∷ MutRef (named 2) κ3 R-Watch ∷ R-u64 ∷ R-u16 ∷ R-Stamp ∷ MutRef (named 3) κ7 R-AnswerWords ∷ []) x at) ∷ []) (runs C Λ En mir′.t-1 (atRet En Post))
       from-1 =
-          move ! (49 ∷ []) $
+          move ! (57 ∷ []) $
           fsplit ! $
           fsplit3 ! $
           drop ! $
@@ -1524,7 +1526,7 @@ module _ {M : Type 1} (𝓤 : URA M) (H : Heap 𝓤) (A : Atoms 𝓤) (W : Given
           fsplit3 ! $
           drop ! $
           move ! (2 ∷ []) $
-          move ! (60 ∷ []) $
+          move ! (68 ∷ []) $
           split ! $
           move ! (1 ∷ []) $
           split ! $
@@ -1543,7 +1545,7 @@ module _ {M : Type 1} (𝓤 : URA M) (H : Heap 𝓤) (A : Atoms 𝓤) (W : Given
           move ! (1 ∷ []) $
           use1 W (‵ (fat fullShare MUnitWords′.mir b1 o1 (only vs-1))) (W .laws .raw-at fullShare MUnitWords′.mir b1 o1 (only vs-1)) $
           rewrite ! 0 (λ (u : Val). ‵ (fat fullShare MUnitWords′.mir b1 o1 u)) ((parts-UnitWords h1 (only vs-1) (one-UnitWords h1 vs-1 g-2)) .whole-is) refl $
-          assigns ! (of-opd ! (load ! (from ! (hop ! (look ! 62 refl) (fld ! {τ = MSettingsWords′.mir} {d = off-UnitWords-0} field-UnitWords-0 (stop !)))) (look-in ! 0 (sub ! {ν = name-of MUnitWords′.mir} {τs = tys-of MUnitWords′.mir} 0 {τ = MSettingsWords′.mir} {d = off-UnitWords-0} field-UnitWords-0 (whole !))))) (from ! (stop !)) (init ! 48 refl (lawful-SettingsWords 𝓤 H A W .typed (h1 .settings) _ ((parts-UnitWords h1 (only vs-1) (one-UnitWords h1 vs-1 g-2)) .pg0) .0)) $
+          assigns ! (of-opd ! (load ! (from ! (hop ! (look ! 70 refl) (fld ! {τ = MSettingsWords′.mir} {d = off-UnitWords-0} field-UnitWords-0 (stop !)))) (look-in ! 0 (sub ! {ν = name-of MUnitWords′.mir} {τs = tys-of MUnitWords′.mir} 0 {τ = MSettingsWords′.mir} {d = off-UnitWords-0} field-UnitWords-0 (whole !))))) (from ! (stop !)) (init ! 56 refl (lawful-SettingsWords 𝓤 H A W .typed (h1 .settings) _ ((parts-UnitWords h1 (only vs-1) (one-UnitWords h1 vs-1 g-2)) .pg0) .0)) $
           rewrite ! 0 (λ (u : Val). ‵ (fat fullShare MUnitWords′.mir b1 o1 u)) (sym ((parts-UnitWords h1 (only vs-1) (one-UnitWords h1 vs-1 g-2)) .whole-is)) refl $
           use1 W (‵ (cellAt fullShare (R-UnitWords .mir) ((only vs-1) ∷ []) b1 o1)) (W .laws .at-raw fullShare MUnitWords′.mir b1 o1 (only vs-1)) $
           closes ! tt R-UnitWords h1 ((only vs-1) ∷ []) b1 o1 $
@@ -1552,16 +1554,16 @@ module _ {M : Type 1} (𝓤 : URA M) (H : Heap 𝓤) (A : Atoms 𝓤) (W : Given
     walk : ent 𝓤 (onEntry 𝓤 H A this.signature (κ1, (κ2, (κ3, (κ7, tt)))) (q1, (q2, (q3, (q7, tt)))) x at) (WpFn 𝓤 H C Λ code.function ((vptr b1 o1) ∷ (vptr b2 o2) ∷ (vptr b3 o3) ∷ u4 ∷ u5 ∷ u6 ∷ (vptr b7 o7) ∷ []) Post)
     walk =
         qed W ((‵ (flft κ1 q1) ⊛ ‵ (flft κ2 q2) ⊛ ‵ (flft κ3 q3) ⊛ ‵ (flft κ7 q7) ⊛ ‵ ftrue) ∷ ‵ (owns (MutRef (named 0) κ1 R-UnitWords ∷ MutRef (named 1) κ2 R-Servo ∷ MutRef (named 2) κ3 R-Watch ∷ R-u64 ∷ R-u16 ∷ R-Stamp ∷ MutRef (named 3) κ7 R-AnswerWords ∷ []) x at) ∷ []) ∵ enter ! C Λ code.function ((vptr b1 o1) ∷ (vptr b2 o2) ∷ (vptr b3 o3) ∷ u4 ∷ u5 ∷ u6 ∷ (vptr b7 o7) ∷ []) _ $
-        alloc1 ! (λ l0. alloc1 ! (λ l1. alloc1 ! (λ l2. alloc1 ! (λ l3. alloc1 ! (λ l4. alloc1 ! (λ l5. alloc1 ! (λ l6. alloc1 ! (λ l7. alloc1 ! (λ l8. alloc1 ! (λ l9. alloc1 ! (λ l10. alloc1 ! (λ l11. alloc1 ! (λ l12. alloc1 ! (λ l13. alloc1 ! (λ l14. alloc1 ! (λ l15. alloc1 ! (λ l16. alloc1 ! (λ l17. alloc1 ! (λ l18. alloc1 ! (λ l19. alloc1 ! (λ l20. alloc1 ! (λ l21. alloc1 ! (λ l22. alloc1 ! (λ l23. alloc0 ! $ params1 ! $
-        pass1 ! (init ! 44 refl (tt, tt)) $
-        pass1 ! (init ! 42 refl (tt, tt)) $
+        alloc1 ! (λ l0. alloc1 ! (λ l1. alloc1 ! (λ l2. alloc1 ! (λ l3. alloc1 ! (λ l4. alloc1 ! (λ l5. alloc1 ! (λ l6. alloc1 ! (λ l7. alloc1 ! (λ l8. alloc1 ! (λ l9. alloc1 ! (λ l10. alloc1 ! (λ l11. alloc1 ! (λ l12. alloc1 ! (λ l13. alloc1 ! (λ l14. alloc1 ! (λ l15. alloc1 ! (λ l16. alloc1 ! (λ l17. alloc1 ! (λ l18. alloc1 ! (λ l19. alloc1 ! (λ l20. alloc1 ! (λ l21. alloc1 ! (λ l22. alloc1 ! (λ l23. alloc1 ! (λ l24. alloc1 ! (λ l25. alloc1 ! (λ l26. alloc1 ! (λ l27. alloc0 ! $ params1 ! $
+        pass1 ! (init ! 52 refl (tt, tt)) $
+        pass1 ! (init ! 50 refl (tt, tt)) $
+        pass1 ! (init ! 48 refl (tt, tt)) $
+        pass1 ! (init ! 46 refl (lawful-u64 𝓤 H A W .typed h4 _ g4 .0)) $
+        pass1 ! (init ! 44 refl (lawful-u16 𝓤 H A W .typed h5 _ g5 .0)) $
+        pass1 ! (init ! 42 refl (lawful-Stamp 𝓤 H A W .typed h6 _ g6 .0)) $
         pass1 ! (init ! 40 refl (tt, tt)) $
-        pass1 ! (init ! 38 refl (lawful-u64 𝓤 H A W .typed h4 _ g4 .0)) $
-        pass1 ! (init ! 36 refl (lawful-u16 𝓤 H A W .typed h5 _ g5 .0)) $
-        pass1 ! (init ! 34 refl (lawful-Stamp 𝓤 H A W .typed h6 _ g6 .0)) $
-        pass1 ! (init ! 32 refl (tt, tt)) $
         pass0 ! $
-        from-1 l0 l1 l2 l3 l4 l5 l6 l7 l8 l9 l10 l11 l12 l13 l14 l15 l16 l17 l18 l19 l20 l21 l22 l23))))))))))))))))))))))))
+        from-1 l0 l1 l2 l3 l4 l5 l6 l7 l8 l9 l10 l11 l12 l13 l14 l15 l16 l17 l18 l19 l20 l21 l22 l23 l24 l25 l26 l27))))))))))))))))))))))))))))
 
 module _ {M : Type 1} (𝓤 : URA M) (H : Heap 𝓤) (A : Atoms 𝓤) (W : Given 𝓤 H A) (mem : Memory → SProp 𝓤) (run : Routine → Fun 𝓤) where
   this-walks : (C : Calls 𝓤 H) (Λ : Loops 𝓤 H) → FmC 𝓤 H (W .laws) C → Triple 𝓤 (C #send) (C-send 𝓤 H A mem run) → Triple 𝓤 (C #untold) (C-untold 𝓤 H A mem run) → Triple 𝓤 (C #steer) (C-steer 𝓤 H A mem run) → Triple 𝓤 (C #say) (C-say 𝓤 H A mem run) → Triple 𝓤 (C #empty) (C-empty 𝓤 H A mem run) → Walks 𝓤 H A this.ended stayed (WpFn 𝓤 H C Λ code.function) (this.clauses 𝓤 H A mem run)

@@ -13,7 +13,7 @@ step-requires : tie.Need-step-requires
 step-requires c κs = search needs
 
 returns-2 : tie.Need-returns-2
-returns-2 c = rw (c .before .before .before .if1 .left, c .before .before .if2 .taken) (c .step .ensures)
+returns-2 c = rw (c .before .before .if1 .left, c .before .if2 .taken) (c .step .ensures)
 
 returns-3 : tie.Need-returns-3
 returns-3 c = rw (c .before .if1 .left, c .if2 .left)

@@ -1,8 +1,8 @@
 #!/usr/bin/env bash
-# Tries wrong rules that are put into the code and into the definitions of its contract alike: the crates below prove them, and the
-# story, which is told from the calls and answers alone, must refuse. Each takes some minutes.
+# Tries wrong rules that are put into the code and into the definitions of its contract alike: the crate that has them proves them, and
+# one above it must refuse: the story, which is told from the calls and answers alone, the unit, or the settings. Each takes some minutes.
 # Usage: scripts/wrong-rules.sh
-# Needs the kit (rt, or what RT names). What target/ has proved is not proved again. Status 1 where the story does not refuse.
+# Needs the kit (rt, or what RT names). What target/ has proved is not proved again. Status 1 where nothing refuses.
 set -euo pipefail
 cd "$(dirname "$0")/.."
 work=$(mktemp -d)
@@ -42,3 +42,14 @@ try one_step_correction_twice rules_exchange story_exchange \
         if two_step {
             sync.follow = 0;' \
   rules_exchange/specs/Halves.antt 'knows n t1 t2 c (pos 0)' 'knows n t1 t2 c c'
+try wipe_unsaid unit_choosing unit \
+  unit_choosing/src/lib.rt 'core.wipe(now, Answer::Choice(decision))' 'core.wipe(now, Answer::Choice(Decision::Same(chosen)))' \
+  unit_choosing/src/lib.rt 'use rules_masters::chosen::Chosen;' 'use rules_masters::chosen::Chosen;
+use rules_masters::chosen::Decision;' \
+  unit_choosing/specs/Choosing.antt 'wipes (Choice d)' 'wipes (Choice (Same c))' \
+  unit_choosing/specs/Choosing.antt 'use Rattle.rules_masters.specs.Holding.' 'use Rattle.rules_masters.specs.declared.chosen.Decision.the-variants.{Same}
+use Rattle.rules_masters.specs.Holding.'
+try minimum_one_too_low rules_watch rules_settings \
+  rules_watch/src/settings.rt 'if self.minimum < 2 { 2 } else { self.minimum }' 'if self.minimum < 3 { 2 } else { self.minimum - 1 }' \
+  rules_watch/specs/Settings.antt 'leastOf t = max 2 (t .minimum)' 'leastOf t = max 2 (t .minimum - 1)' \
+  rules_watch/specs/Settings.antt 'use Prim.Native.Nat.{ℕ, min, max}' 'use Prim.Native.Nat.{ℕ, _-_, min, max}'

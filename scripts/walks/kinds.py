@@ -6,7 +6,7 @@ NUMBER = r'[ui](?:8|16|32|64|size)|bool'
 
 
 # A type. form: struct, enum, scalar (a number or bool whose name is known), array, ref, slice, unit, and as the MIR has them int, bool, ptr.
-# type is its antt type and mir its MIR type, both as text; the proof has R-NAME, v-NAME, tells-NAME, .. for it.
+# type is its antt type and mir its MIR type, both as text; Types.antt has K-NAME, its laws (proofs/Plain.antt).
 class Kind:
     def __init__(self, form, name, mir, type=None, **more):
         self.form, self.name, self.mir, self.type = form, name, mir, type
@@ -45,7 +45,13 @@ def number_in(written):
     return found and found.group(1)
 
 
-# All types of one walk, by name. Their order is that in which the walk first meets them, and the order of their laws in the proof.
+# Where the kit's library of a crate has the type or the callee at a path; what is specs or proofs.
+def library(crate, path, what):
+    top = f'Rattle.{crate}.{what}' if path[0] == crate else f'Rattle.{path[0]}.{what}'
+    return top + ('.declared' if what == 'specs' else '') + '.' + '.'.join(path[1:])
+
+
+# All types of one walk, by name. Their order is that in which the walk first meets them.
 class Kinds:
     def __init__(self, function):
         self.function, self.source, self.known, self.cache = function, Source(), {}, {}
@@ -63,12 +69,6 @@ class Kinds:
         self.paths[name] = path
         return name
 
-    # Where the kit's library of a crate has a type or callee; what is specs or proofs.
-    def library(self, name, what):
-        path, crate = self.paths[name], self.function.crate
-        top = f'Rattle.{crate}.{what}' if path[0] == crate else f'Rattle.{path[0]}.{what}'
-        return top + ('.declared' if what == 'specs' else '') + '.' + '.'.join(path[1:])
-
     # The kind of a type of the MIR.
     def of(self, e):
         if e == 'tyUnit': return self.known.setdefault('unit', Kind('unit', 'unit', 'tyUnit', '(Unit {0})'))
@@ -84,7 +84,7 @@ class Kinds:
     # A struct or an enum.
     def declared(self, path):
         name = path[-1]; self.paths[name] = path
-        return self.known.setdefault(name, Kind('enum' if name in self.enums else 'struct', name, f'M{name}′.mir', f'S{name}.{name}'))
+        return self.known.setdefault(name, Kind('enum' if name in self.enums else 'struct', name, f'(ty K-{name})', f'(of K-{name})'))
 
     # A reference or a slice. A parameter's lifetime is a number; that of a local is erased.
     def lent(self, form, e):
@@ -93,7 +93,7 @@ class Kinds:
 
     # A reference's MIR type. What it lends is named by its row where that has a name.
     def ref_mir(self, t):
-        to = f'(pointee (R-{t.to.name} .written))' if t.to.form in ('struct', 'enum', 'array') else t.to.mir
+        to = f'(pointee (row-of K-{t.to.name} .written))' if t.to.form in ('struct', 'enum', 'array') else t.to.mir
         return f'(tyRef {t.lifetime_text} {t.mut} {to})'
 
     # A number or bool, by its name in the source.
@@ -125,7 +125,7 @@ class Kinds:
             if t.form in ('ref', 'slice'): t = t.to
             if t.form == 'array': t = t.element
             if name and t.form in forms: found[k] = name
-        for k, written in enumerate(self.source.signature([function.crate, function.name])[0], 1): note(k, number_in(written), ('int', 'bool'))
+        for k, written in enumerate(self.source.signature([function.crate, *function.path])[0], 1): note(k, number_in(written), ('int', 'bool'))
         for s in mir.deep(function.body):
             if isinstance(s, mir.Call):
                 if self.locals[s.place.local].form in ('int', 'bool'): note(s.place.local, number_in(self.source.signature(s.path)[1]), ('int', 'bool'))

@@ -70,7 +70,7 @@ class If:                     # if local { then }, where then ends in a return
 @dataclass
 class Function:
     crate: str
-    name: str
+    path: list                # in the crate: modules, name
     lifetimes: int
     params: int               # they are locals 1, 2, ..; local 0 is the result
     locals: list              # their types, as printed
@@ -145,11 +145,11 @@ def statement(e):
     raise Exception(f'not walked: {e}')
 
 
-# The function, out of the print of its crate.
+# The function, out of the print of its crate. name has its modules: a::f.
 def read(text, crate, name):
     found = definition(tree(text), f'"{crate}::{name}"')
     item = found[2]
-    return Function(crate, name, int(item[1]), int(item[3]), [l[1] for l in chain(item[4])], statements(item[5]),
+    return Function(crate, name.split('::'), int(item[1]), int(item[3]), [l[1] for l in chain(item[4])], statements(item[5]),
                     {tuple(path_of(d[1])): d[2][0] for d in chain(found[3])})
 
 

@@ -1,6 +1,4 @@
-// What is answered, as text: the unit's answers here, one function for each group of them; those to `read` and `write` in messages.
-pub mod messages;
-
+// What the unit answers, as text: one function for each group of answers.
 ghost use Prim.Native.Nat.{_≤_};
 use bench_text::Out;
 use bench_text::field8;

@@ -1,24 +1,22 @@
 // The desk: what is kept from line to line, and what is answered to each call.
-mod asks;
-
 ghost use mathlib.Core.Path.{_≡_};
 ghost use Prim.Native.Nat.{_≤_};
-use asks::Asks;
-use asks::asks_of;
-use asks::front;
 use bench_answers::answer_text;
-use bench_answers::messages::read;
-use bench_answers::messages::write;
 use bench_answers::refused;
+use bench_asks::Asks;
+use bench_asks::asks_of;
+use bench_asks::front;
 use bench_calls::Call;
 use bench_calls::Store;
+use bench_messages::read;
+use bench_messages::write;
 use bench_text::Out;
 use bench_text::text;
 use rules_settings::Settings;
 use unit::Stepped;
 use unit::Unit;
+use unit::handing::Asked;
 use unit::request_into;
-use unit_core::calls::Call as UnitCall;
 
 pub struct Desk {
     pub length: usize, // of a line that is not yet whole
@@ -111,11 +109,11 @@ impl Desk {
         self.hears(out, stepped, frame)
     }
 
-    fn calls(self, out: &mut Out, call: UnitCall) -> Desk
+    fn calls(self, out: &mut Out, asked: Asked) -> Desk
         ensures { λ r. ⌜ r .at ≤ 65536 ⌝ }
     {
         let unit = self.unit;
-        self.hears(out, unit.step(call), b"")
+        self.hears(out, unit.serve(asked), b"")
     }
 
     // A line to the unit. A refused `unit` line leaves the unit that was there.
@@ -125,7 +123,7 @@ impl Desk {
         match asks {
             Asks::Make(settings) => self.makes(out, settings),
             Asks::Request(now, length) => self.requests(out, now, length),
-            Asks::Call(call) => self.calls(out, call),
+            Asks::Unit(asked) => self.calls(out, asked),
             _ => {
                 self.at = unasked(out, self.at, asks);
                 self

@@ -1,3 +1,3 @@
--- What the walks of the exports cite: fields and slices that are lent on, and come back.
-pub mod Fields
-pub mod Again
+-- What the walks share, written with them: the walked functions that they call, and where the names stand that they cite. All else is crate door_walk's.
+pub mod Callees
+pub mod Prelude

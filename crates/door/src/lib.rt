@@ -6,22 +6,20 @@ ghost use Rattle.unit_measuring.specs.Frame.{frameAfter};
 ghost use Rattle.rules_exchange.specs.Events.{freshExchange};
 ghost use Rattle.door_records.specs.Unit.{delaysWords, coreOf};
 ghost use Rattle.door_words.specs.Messages.{readWords, messageBy, writtenBy, leftWords};
-ghost use Rattle.door_steps.specs.Making.{madeOf};
-ghost use Rattle.door_steps.specs.Asking.{requestedOf};
-ghost use Rattle.door_steps.specs.Showing.{shownOf};
-ghost use Rattle.door_steps.specs.Ticking.{linedOf};
+ghost use Rattle.door_core.specs.Making.{madeOf};
+ghost use Rattle.door_measuring.specs.Asking.{requestedOf};
+ghost use Rattle.door_core.specs.Showing.{shownOf};
+ghost use Rattle.door_core.specs.Ticking.{linedOf};
 ghost use Rattle.door_loop.specs.Lending.{receiveOf, timeOf, requestOf, sentOf, resetOf, tickOf};
+use door_core::making;
+use door_core::making::Made;
+use door_core::receiving;
+use door_core::showing;
+use door_core::ticking;
+use door_core::wiping;
+use door_measuring::asking;
 use door_records::masters::MasterWords;
 use door_records::unit::UnitWords;
-use door_steps::asking;
-use door_steps::choosing;
-use door_steps::making;
-use door_steps::making::Made;
-use door_steps::measuring;
-use door_steps::receiving;
-use door_steps::showing;
-use door_steps::ticking;
-use door_steps::wiping;
 use door_words::answers::AnswerWords;
 use door_words::messages::MessageWords;
 use door_words::messages::WrittenWords;
@@ -93,68 +91,17 @@ pub extern "C" fn sinezhab_receive(
         *answer = receiving::refused(k);
         return;
     }
-    if table.len() != 5 {
-        *answer = choosing::untabled();
-        return;
-    }
     let m = k.message;
-    let s = unit.settings;
-    let t = unit.state;
     let announces = k.announces;
     if announces {
-        let e = choosing::span(s);
-        let a0 = choosing::look(table[0], m, time, e);
-        let a1 = choosing::look(table[1], m, time, e);
-        let a2 = choosing::look(table[2], m, time, e);
-        let a3 = choosing::look(table[3], m, time, e);
-        let a4 = choosing::look(table[4], m, time, e);
-        let p = choosing::seat_in(s, t, m, time, a0, a1, a2, a3, a4);
-        let full = p.barred;
-        if full {
-            *answer = choosing::unseated(p);
-            return;
-        }
-        let at = p.at;
-        let w = choosing::place(table[at], m, p, time);
-        table[at] = w;
-        let q = choosing::choose(t, time, e, p, w, a0, a1, a2, a3, a4);
-        *answer = q.answer;
-        unit.state = q.state;
-        let wipes = q.wipes;
-        if wipes {
-            let f = wiping::clear(s);
-            unit.halves = f.halves;
-            unit.delays = f.delays;
-            *servo = f.servo;
-            watch.head = rules_watch::empty(&mut watch.references, &mut watch.ys, &mut watch.marks);
-            return;
-        }
+        door_leaving::announce(unit, servo, table, watch, m, time, answer);
         return;
     }
-    let h = unit.halves;
-    let d = unit.delays;
-    let q = measuring::hear(s, t, h, d, m, time, arrival);
-    let refuses = q.barred;
-    if refuses {
-        *answer = measuring::untold(q);
+    if table.len() != 5 {
+        *answer = door_choosing::untabled();
         return;
     }
-    unit.state = q.state;
-    unit.halves = q.halves;
-    unit.delays = q.delays;
-    let v = *servo;
-    let found = q.found;
-    let steers = q.steers;
-    let wipes = q.wipes;
-    let n = measuring::steer(v, s, found, steers, wipes);
-    *servo = n;
-    let code = q.code;
-    let asked = q.sequence;
-    *answer = measuring::say(code, asked, found, steers, n);
-    if wipes {
-        watch.head = rules_watch::empty(&mut watch.references, &mut watch.ys, &mut watch.marks);
-        return;
-    }
+    door_leaving::measure(unit, servo, watch, m, time, arrival, answer);
 }
 
 // The bare time call: the choice over the five records, which it leaves as they are.
@@ -174,29 +121,19 @@ pub extern "C" fn sinezhab_time(
         × (now (watch .exit) ≡ timeOf (now (unit .entry)) (now (servo .entry)) (now (table .entry)) (now (watch .entry)) time .watch) ⌝ }
 {
     if table.len() != 5 {
-        *answer = choosing::untabled();
+        *answer = door_choosing::untabled();
         return;
     }
     let s = unit.settings;
     let t = unit.state;
-    let e = choosing::span(s);
-    let c0 = choosing::candidate(table[0], time, e);
-    let c1 = choosing::candidate(table[1], time, e);
-    let c2 = choosing::candidate(table[2], time, e);
-    let c3 = choosing::candidate(table[3], time, e);
-    let c4 = choosing::candidate(table[4], time, e);
-    let q = choosing::pass(t, time, c0, c1, c2, c3, c4);
-    *answer = q.answer;
-    unit.state = q.state;
-    let wipes = q.wipes;
-    if wipes {
-        let f = wiping::clear(s);
-        unit.halves = f.halves;
-        unit.delays = f.delays;
-        *servo = f.servo;
-        watch.head = rules_watch::empty(&mut watch.references, &mut watch.ys, &mut watch.marks);
-        return;
-    }
+    let e = door_choosing::span(s);
+    let c0 = door_choosing::candidate(table[0], time, e);
+    let c1 = door_choosing::candidate(table[1], time, e);
+    let c2 = door_choosing::candidate(table[2], time, e);
+    let c3 = door_choosing::candidate(table[3], time, e);
+    let c4 = door_choosing::candidate(table[4], time, e);
+    let q = door_choosing::pass(t, time, c0, c1, c2, c3, c4);
+    door_leaving::hold(unit, servo, watch, q, answer);
 }
 
 // A request into a lent frame: it is touched only where the answer is that it is asked.
@@ -236,32 +173,7 @@ pub extern "C" fn sinezhab_sent(
         × (now (servo .exit) ≡ sentOf (now (unit .entry)) (now (servo .entry)) (now (watch .entry)) time sequence t3 .servo)
         × (now (watch .exit) ≡ sentOf (now (unit .entry)) (now (servo .entry)) (now (watch .entry)) time sequence t3 .watch) ⌝ }
 {
-    let s = unit.settings;
-    let t = unit.state;
-    let h = unit.halves;
-    let d = unit.delays;
-    let q = measuring::send(s, t, h, d, time, sequence, t3);
-    let refuses = q.barred;
-    if refuses {
-        *answer = measuring::untold(q);
-        return;
-    }
-    unit.state = q.state;
-    unit.halves = q.halves;
-    unit.delays = q.delays;
-    let v = *servo;
-    let found = q.found;
-    let steers = q.steers;
-    let wipes = q.wipes;
-    let n = measuring::steer(v, s, found, steers, wipes);
-    *servo = n;
-    let code = q.code;
-    let asked = q.sequence;
-    *answer = measuring::say(code, asked, found, steers, n);
-    if wipes {
-        watch.head = rules_watch::empty(&mut watch.references, &mut watch.ys, &mut watch.marks);
-        return;
-    }
+    door_leaving::sent(unit, servo, watch, time, sequence, t3, answer);
 }
 
 // The operator's reset.
@@ -277,14 +189,9 @@ pub extern "C" fn sinezhab_reset(
         × (now (servo .exit) ≡ resetOf (now (unit .entry)) .servo)
         × (now (watch .exit) ≡ resetOf (now (unit .entry)) .watch) ⌝ }
 {
-    let s = unit.settings;
     let t = unit.state;
-    let f = wiping::clear(s);
     unit.state = wiping::reset(t);
-    unit.halves = f.halves;
-    unit.delays = f.delays;
-    *servo = f.servo;
-    watch.head = rules_watch::empty(&mut watch.references, &mut watch.ys, &mut watch.marks);
+    door_leaving::freshen(unit, servo, watch);
     *answer = wiping::wiped();
 }
 
@@ -303,30 +210,7 @@ pub extern "C" fn sinezhab_tick(
         × (now (servo .exit) ≡ tickOf (now (unit .entry)) (now (servo .entry)) (now (watch .entry)) reference clock .servo)
         × (now (watch .exit) ≡ tickOf (now (unit .entry)) (now (servo .entry)) (now (watch .entry)) reference clock .watch) ⌝ }
 {
-    let s = unit.settings;
-    let h = watch.head;
-    let p = ticking::tick(
-        s,
-        h,
-        &mut watch.references,
-        &mut watch.ys,
-        &mut watch.marks,
-        reference,
-        clock,
-    );
-    *answer = p.answer;
-    let wipes = p.wipes;
-    if wipes {
-        let t = unit.state;
-        let f = wiping::clear(s);
-        unit.state = wiping::wipe(t);
-        unit.halves = f.halves;
-        unit.delays = f.delays;
-        *servo = f.servo;
-        watch.head = rules_watch::empty(&mut watch.references, &mut watch.ys, &mut watch.marks);
-        return;
-    }
-    watch.head = p.head;
+    door_leaving::pulse(unit, servo, watch, reference, clock, answer);
 }
 
 // The drift line.

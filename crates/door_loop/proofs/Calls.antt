@@ -1,9 +1,10 @@
 -- A call that is lent no table: what it leaves of the parts is what the unit makes of it.
 use mathlib.Core.Path.{_≡_, refl, sym, ap, _∙_}
 use mathlib.Core.Bool.{Bool, cond, true, false}
-use mathlib.Core.List.{[]}
+use mathlib.Core.List.{List, []}
 use Prim.Native.Nat.{ℕ}
 use lib.IntN.{ℤ}
+use lib.ListN.{length}
 use Rattle.numbers.specs.declared.stamp.Stamp.{Stamp}
 use Rattle.numbers.specs.declared.ruling.Ruling.{Ruling}
 use Rattle.numbers.specs.declared.ruling.Ruling.the-variants.{Clear, Barred}
@@ -29,26 +30,33 @@ use Rattle.unit_core.specs.Effects.{Stays, Progress, Effect, staysOf, progressO
 use Rattle.unit_measuring.specs.Measuring.{bySaid, exchanges}
 use Rattle.unit_measuring.specs.Barring.{ownDue}
 use Rattle.unit_measuring.specs.Asking.{requestGrounds, withNextSequence, requests, sends}
+use Rattle.unit_measuring.specs.Frame.{frameAfter}
 use Rattle.unit_measuring.specs.Inner.{messageGrounds, handed}
 use Rattle.unit_measuring.proofs.Barring.{unless-told}
 use Rattle.unit_ticking.specs.Ticking.{ticks, lineBy}
 use Rattle.unit_ticking.proofs.Pulses.{every-outcome}
 use Rattle.unit.specs.declared.Unit.{Unit}
+use Rattle.unit.specs.declared.Stepped.{Stepped}
 use Rattle.unit.specs.Calls.{applied}
+use Rattle.unit.specs.Handing.{request, sent, tick, line, askedOf, servedOf}
 use Rattle.door_records.specs.declared.unit.UnitWords.{UnitWords}
 use Rattle.door_records.specs.Unit.{coreIn, settingsIn, exchangeIn}
 use Rattle.door_records.proofs.Backs.{exchange-back}
 use Rattle.door_words.specs.Answers.{answerWords, driftWords, refusing}
-use Rattle.door_steps.specs.declared.measuring.Told.{Told}
-use Rattle.door_steps.specs.Asking.{requestedBy}
-use Rattle.door_steps.specs.Measuring.{toldBy, unlessTold, spokenTold, sentTold, servoAfter}
-use Rattle.door_steps.specs.Ticking.{tickedBy}
+use Rattle.door_core.specs.Ticking.{tickedBy}
+use Rattle.door_measuring.specs.declared.measuring.Told.{Told}
+use Rattle.door_measuring.specs.Asking.{requestedBy}
+use Rattle.door_measuring.specs.Measuring.{toldBy, unlessTold, spokenTold, sentTold, servoAfter}
 use Rattle.door_loop.specs.Lending.{says, spokenIn, toldIn, tickedIn}
-use Rattle.door_loop.specs.Loop.{Parts, unitIn, request, sent, tick, line, Found, fromLent, fromTurned, lends, Meant, stepped, means}
+use Rattle.door_loop.specs.Loop.{Parts, unitIn, Found, fromLent, fromTurned, lends, Meant, means}
 
 -- what is found tells this
 abbrev pub meantIn : Found → Meant
-meantIn f = record { unit = unitIn (f .parts); answer = f .answer }
+meantIn f = record { unit = unitIn (f .parts); answer = f .answer; frame = f .frame }
+
+-- of a call that is lent no frame
+abbrev pub stepped : Stepped → Meant
+stepped r = record { unit = r .unit; answer = answerWords (r .answer); frame = [] }
 
 module _ (p : Parts) where
   abbrev pub u : UnitWords
@@ -119,7 +127,7 @@ module _ (p : Parts) where
       go false = refl
 
   pub sent-same : (now sequence : ℕ) (t3 : Stamp) → meantIn (lends p (sent now sequence t3)) ≡ means c (sent now sequence t3)
-  unfolding lends means sends
+  unfolding lends means servedOf askedOf sends
   sent-same now sequence t3 =
       turned-same (sentTold (u .settings) (u .state) (u .halves) (u .delays) now sequence t3) ∙ unless-same now (firstOf (ofExchange (ownDue stays now (fieldOf t3)))) (told held (leaves sequence t3))
       ∙ ap by (sym (unless-told set (withNow now stays) progress held (leaves sequence t3) (ownDue stays now (fieldOf t3)) refl refl refl))
@@ -147,15 +155,18 @@ module _ (p : Parts) where
               watch = p .watch;
             };
         answer = requestedBy (u .state) (u .halves) now v .answer;
+        frame = [];
+        stray = [];
       })
       ≡ by (unless v (exchanges set (withNextSequence now stays) progress (tellsOf held (requested (u .state .sequence)))))
   unfolding tellsOf rowBy stampTaken bySaid
   asked-same now Clear = refl
   asked-same now (Barred n) = refl
 
-  pub requested-same : (now room : ℕ) → meantIn (lends p (request now room)) ≡ means c (request now room)
-  unfolding lends means requests
-  requested-same now room = asked-same now (firstOf (requestGrounds stays now room))
+  pub requested-same : (frame : List ℕ) (now : ℕ) → meantIn (lends p (request frame now)) ≡ means c (request frame now)
+  unfolding lends means servedOf askedOf requests
+  requested-same frame now =
+      ap (λ (m : Meant). record { unit = m .unit; answer = m .answer; frame = frameAfter (c .core) now frame }) (asked-same now (firstOf (requestGrounds stays now (length frame))))
 
   -- ---- a pulse
   taken-wipes-not : (valid : Bool) → wipesOf (pulseOf valid) ≡ false
@@ -163,7 +174,7 @@ module _ (p : Parts) where
   taken-wipes-not false = refl
 
   pub ticked-same : (reference clock : ℤ) → meantIn (lends p (tick reference clock)) ≡ means c (tick reference clock)
-  unfolding lends means
+  unfolding lends means servedOf askedOf
   ticked-same reference clock =
       every-outcome
       (λ o. meantIn (fromTurned p (tickedIn u (p .servo) (takenBy (set .watch) (p .watch) o) (tickedBy (tookOf (takenBy (set .watch) (p .watch) o))))) ≡ by (ticks stays o))
@@ -176,5 +187,5 @@ module _ (p : Parts) where
   drift-same (drift.Line l) count = refl
 
   pub lined-same : meantIn (lends p line) ≡ means c line
-  unfolding lends means
+  unfolding lends means servedOf askedOf
   lined-same = rw (line-in (set .watch) (p .watch), drift-same (watchLine (set .watch) (p .watch)) (u .state .wipes))

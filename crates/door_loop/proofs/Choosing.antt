@@ -3,13 +3,10 @@ use mathlib.Core.Path.{_≡_, refl, sym, ap, _∙_}
 use mathlib.Core.Bool.{Bool, cond, true, false}
 use mathlib.Core.List.{List, [], _∷_, map}
 use Prim.Native.Nat.{ℕ, zero, suc}
-use lib.Dec.{ltb}
 use lib.ListN.{length, getD, set, length-map}
-use Rattle.numbers.specs.declared.refusal.Refusal.the-variants.{Now, Repeat, Full}
 use Rattle.numbers.specs.declared.ruling.Ruling.{Ruling}
 use Rattle.numbers.specs.declared.ruling.Ruling.the-variants.{Clear, Barred}
-use Rattle.numbers.specs.Refusals.{numberOf}
-use Rattle.numbers.specs.Grounds.{firstOf, noneDue, dueWith}
+use Rattle.numbers.specs.Grounds.{firstOf}
 use Rattle.numbers.specs.Orders.{ofTime}
 use Rattle.wire_layout.specs.declared.message.Message.{Message}
 use Rattle.rules_masters.specs.declared.admission.Admitted.{Admitted}
@@ -24,22 +21,22 @@ use Rattle.rules_masters.specs.Holding.{chosenAt, sameMasterOf}
 use Rattle.rules_masters.specs.Inner.{barredOf, seatOf, seatIn, settledOf}
 use Rattle.rules_masters.specs.Records.{freshRecord, intervalOf, renewedOf, enteredOf}
 use Rattle.rules_masters.proofs.Candidates.{best-at}
-use Rattle.rules_masters.proofs.Standings.{seat-number, seat-settles, admitted-parts}
+use Rattle.rules_masters.proofs.Standings.{seat-settles, admitted-parts}
 use Rattle.unit_core.specs.declared.calls.Answer.the-variants.{Choice}
 use Rattle.unit_core.specs.Effects.{goes, wipes, unless}
-use Rattle.unit_choosing.specs.Choosing.{admission, withChosen, holds, chooses, admits, timePasses}
+use Rattle.unit_choosing.specs.Choosing.{timeDue, admission, withChosen, holdsBy, holds, chooses, admits, timePasses}
 use Rattle.unit.specs.Calls.{applied}
 use Rattle.door_records.specs.declared.masters.MasterWords.{MasterWords}
 use Rattle.door_records.specs.Unit.{chosenIn as masterIn}
 use Rattle.door_records.specs.Masters.{recordIn, masterWords}
 use Rattle.door_records.proofs.Backs.{chosen-back}
-use Rattle.door_words.specs.Answers.{choosing, refusing}
-use Rattle.door_steps.specs.Wiping.{wipedState}
-use Rattle.door_steps.specs.Choosing.{announceIn, seatUnless, chosenState, heldOf, timedOf}
+use Rattle.door_words.specs.Answers.{choosing}
+use Rattle.door_core.specs.Wiping.{wipedState}
+use Rattle.door_choosing.specs.Choosing.{announceIn, numberedBy, seatUnless, chosenState, heldBy, heldOf, heldUnless, timedOf}
 use Rattle.door_loop.specs.Lending.{noMaster, standingAt, chosenIn, heldIn, seatedIn}
 use Rattle.door_loop.specs.Lending as places
-use Rattle.door_loop.specs.Loop.{Parts, fromLent, Meant, stepped}
-use Rattle.door_loop.proofs.Calls.{meantIn, u, c, set as settled, stays, progress, by}
+use Rattle.door_loop.specs.Loop.{Parts, fromLent, Meant}
+use Rattle.door_loop.proofs.Calls.{meantIn, stepped, u, c, set as settled, stays, progress, by}
 
 -- ---- lists: the records that the words of a table tell
 module _ {A B : Type 0} (f : A → B) where
@@ -71,15 +68,15 @@ module _ (p : Parts) where
   -- this master, or none, is held
   held-same : (t : List MasterWords) (now : ℕ) (m : Chosen)
       → meantIn (fromLent (heldIn (u p) (p .servo) t (p .watch) (heldOf (u p .state) now m))) ≡ stepped (applied (c p) (tell t) (holds (stays p) (progress p) now m))
+  unfolding heldOf
   held-same t now m = go (sameMasterOf (masterIn (u p .state .chosen)) m)
     where
       go : (b : Bool)
           → meantIn
           (fromLent
           (heldIn (u p) (p .servo) t (p .watch)
-          (cond b (record { answer = choosing (Same m); state = chosenState (u p .state) now m; wipes = false })
-          (record { answer = choosing (Changed m); state = wipedState (chosenState (u p .state) now m); wipes = true }))))
-          ≡ stepped (applied (c p) (tell t) (cond b (goes (Choice (Same m)) (withChosen (stays p) now m) (progress p)) (wipes (Choice (Changed m)) (withChosen (stays p) now m))))
+          (heldBy (u p .state) now m (cond b (Same m) (Changed m)))))
+          ≡ stepped (applied (c p) (tell t) (holdsBy (stays p) (progress p) now m (cond b (Same m) (Changed m))))
       go true = rw (chosen-back m)
       go false = rw (chosen-back m)
 
@@ -112,37 +109,29 @@ module _ (p : Parts) where
     stored-same : (at : ℕ) (r : Record) → map recordIn (set (p .table) at (masterWords r)) ≡ set (map recordIn (p .table)) at r
     stored-same at r = map-set recordIn (p .table) at (masterWords r)
 
-    -- a seat with other truth values
-    abbrev seat-as : Seat → Bool → Bool → Seat
-    seat-as s b k = record { barred = b; number = s .number; at = s .at; known = k }
-
     -- by the seat
-    seated-same : (s : Seat) → s .number ≡ cond (s .barred) (numberOf (cond (s .known) Repeat Full)) 0
-        → meantIn (fromLent (seatedIn (u p) (p .servo) (p .table) (p .watch) m now s)) ≡ after (settledOf s table announced now)
-    seated-same s n = go (s .barred) (s .known) n
-      where
-        go : (b k : Bool) → s .number ≡ cond b (numberOf (cond k Repeat Full)) 0
-            → meantIn (fromLent (seatedIn (u p) (p .servo) (p .table) (p .watch) m now (seat-as s b k))) ≡ after (settledOf (seat-as s b k) table announced now)
-        go true true e = rw e
-        go true false e = rw e
-        go false true e =
-            let r = renewedOf (recordIn (getD (p .table) (s .at) noMaster)) announced now in
-            chose-same (set (p .table) (s .at) (masterWords r)) now
-            ∙ rw (stored-same (s .at) r, place-told (p .table) (s .at))
-        go false false e =
-            let r = enteredOf announced now in
-            chose-same (set (p .table) (s .at) (masterWords r)) now ∙ rw (stored-same (s .at) r)
+    seated-same : (v : Ruling) (at : ℕ) (known : Bool)
+        → meantIn (fromLent (seatedIn (u p) (p .servo) (p .table) (p .watch) m now (numberedBy v at known)))
+        ≡ after (settledOf (record { ruling = v; at = at; known = known }) table announced now)
+    seated-same (Barred r) at known = refl
+    seated-same Clear at true =
+        let r = renewedOf (recordIn (getD (p .table) at noMaster)) announced now in
+        chose-same (set (p .table) at (masterWords r)) now
+        ∙ rw (stored-same at r, place-told (p .table) at)
+    seated-same Clear at false =
+        let r = enteredOf announced now in
+        chose-same (set (p .table) at (masterWords r)) now ∙ rw (stored-same at r)
 
     -- and by the refusals that need no table
-    ruled-same : (v : Ruling) (s : Seat) → s .number ≡ cond (s .barred) (numberOf (cond (s .known) Repeat Full)) 0
+    ruled-same : (v : Ruling) (s : Seat)
         → meantIn (fromLent (seatedIn (u p) (p .servo) (p .table) (p .watch) m now (seatUnless v s))) ≡ after (admittedBy v table (settledOf s table announced now))
-    ruled-same Clear s n = seated-same s n
-    ruled-same (Barred r) s n = refl
+    ruled-same Clear s = seated-same (s .ruling) (s .at) (s .known)
+    ruled-same (Barred r) s = refl
 
     pub announced-same : meantIn (fromLent (seatedIn (u p) (p .servo) (p .table) (p .watch) m now (places.seatIn (u p) (p .table) m now)))
         ≡ after (admission (settled p) (stays p) table now announced)
     announced-same =
-        ruled-same (barredOf announced (settled p .domain) (settled p .own) (stays p .now) now) _ (seat-number _ _ _ _ _)
+        ruled-same (barredOf announced (settled p .domain) (settled p .own) (stays p .now) now) _
         ∙ ap (λ (s : Seat). after (admittedBy (barredOf announced (settled p .domain) (settled p .own) (stays p .now) now) table (settledOf s table announced now))) seat-same
         ∙ ap (λ (a : Admitted). after (admittedBy (barredOf announced (settled p .domain) (settled p .own) (stays p .now) now) table a)) (seat-settles table announced (intervalOf exponent) now (length-map (p .table) recordIn ∙ five))
         ∙ ap after (sym (admitted-parts table announced (settled p .domain) (settled p .own) exponent (stays p .now) now))
@@ -151,14 +140,11 @@ module _ (p : Parts) where
   pub passed-same : (now : ℕ)
       → meantIn (fromLent (heldIn (u p) (p .servo) (p .table) (p .watch) (timedOf (u p .state) now (chosenIn (u p) (p .table) now))))
       ≡ by p (timePasses (settled p) (stays p) (progress p) (c p .table) now)
-  unfolding timePasses firstOf
-  passed-same now = go (ltb now (u p .state .now))
+  unfolding timePasses
+  passed-same now = go (firstOf (ofTime (timeDue (u p .state .now) now)))
     where
-      go : (b : Bool)
-          → meantIn
-          (fromLent
-          (heldIn (u p) (p .servo) (p .table) (p .watch)
-          (cond b (record { answer = refusing (numberOf Now); state = u p .state; wipes = false }) (heldOf (u p .state) now (chosenIn (u p) (p .table) now)))))
-          ≡ by p (unless (firstOf (ofTime (dueWith Now b noneDue))) (chooses (settled p) (stays p) (progress p) (c p .table) now))
-      go true = refl
-      go false = chose-same (p .table) now
+      go : (v : Ruling)
+          → meantIn (fromLent (heldIn (u p) (p .servo) (p .table) (p .watch) (heldUnless (u p .state) v (heldOf (u p .state) now (chosenIn (u p) (p .table) now)))))
+          ≡ by p (unless v (chooses (settled p) (stays p) (progress p) (c p .table) now))
+      go Clear = chose-same (p .table) now
+      go (Barred n) = refl

@@ -33,18 +33,19 @@ use Rattle.door_records.specs.Unit.{watchIn, ownIn}
 use Rattle.door_records.specs.Masters.{recordIn}
 use Rattle.door_words.specs.declared.answers.AnswerWords.{AnswerWords}
 use Rattle.door_words.specs.Answers.{refusing}
-use Rattle.door_steps.specs.declared.receiving.Received.{Received}
-use Rattle.door_steps.specs.declared.measuring.Told.{Told}
-use Rattle.door_steps.specs.declared.choosing.Held.{Held}
-use Rattle.door_steps.specs.declared.choosing.Looked.{Looked}
-use Rattle.door_steps.specs.declared.wiping.Emptied.{Emptied}
-use Rattle.door_steps.specs.declared.ticking.Ticked.{Ticked}
-use Rattle.door_steps.specs.Wiping.{wipedState, resetState, emptiedOf}
-use Rattle.door_steps.specs.Receiving.{receivedBy}
-use Rattle.door_steps.specs.Measuring.{heardTold, servoAfter, outputSaid}
-use Rattle.door_steps.specs.Choosing.{announceIn, lookedOf, seatBy, seatUnless, bestWith, heldOf, timedOf, untabledOf}
-use Rattle.door_steps.specs.Ticking.{tickedAs, tickedBy}
-use Rattle.door_loop.specs.Lending.{Lent, says, withState, unitWith, wipedIn, spokenIn, toldIn, heldIn, noMaster, standingAt, candidateAt, chosenIn, placedIn, seatedIn, seatIn, openIn, receivedIn, receiveOf, timeOf, resetOf, tickedIn, tickOf}
+use Rattle.door_core.specs.declared.receiving.Received.{Received}
+use Rattle.door_core.specs.declared.wiping.Emptied.{Emptied}
+use Rattle.door_core.specs.declared.ticking.Ticked.{Ticked}
+use Rattle.door_core.specs.Wiping.{wipedState, resetState, emptiedOf}
+use Rattle.door_core.specs.Receiving.{receivedBy}
+use Rattle.door_core.specs.Ticking.{tickedAs, tickedBy}
+use Rattle.door_choosing.specs.declared.Held.{Held}
+use Rattle.door_choosing.specs.declared.Seated.{Seated}
+use Rattle.door_choosing.specs.declared.Looked.{Looked}
+use Rattle.door_choosing.specs.Choosing.{announceIn, lookedOf, numberedBy, seatBy, seatUnless, bestWith, heldOf, timedOf, untabledOf}
+use Rattle.door_measuring.specs.declared.measuring.Told.{Told}
+use Rattle.door_measuring.specs.Measuring.{heardTold, servoAfter, outputSaid}
+use Rattle.door_loop.specs.Lending.{Lent, says, withState, unitWith, wipedIn, spokenIn, toldIn, heardIn, heldIn, noMaster, standingAt, candidateAt, chosenIn, placedIn, seatedIn, seatIn, announcedIn, openIn, receivedIn, receiveOf, timeOf, resetOf, tickedIn, tickOf}
 
 -- ---- a test that held, or did not
 pub held-is : {X : Type 0} (t : Bool) (a b : X) → Holds t → a ≡ cond t a b
@@ -71,11 +72,12 @@ pub taken-is : (x y : Watch) (a : Answer) (q : Ticked) → q ≡ tickedAs (y .he
 taken-is x y a q e h r s m i =
     record { head = (h ∙ ap (λ (k : Ticked). k .head) e ∙ head-as (y .head) a) i; references = r i; ys = s i; marks = m i }
 
--- ---- a wipe
-pub wiped-is : (w : UnitWords) (s r : StateWords) (t : List MasterWords) (a : AnswerWords) (f : Emptied) (x : Watch) → s ≡ r → f ≡ emptiedOf (w .settings) → x ≡ freshWatch
-    → record { unit = record { settings = w .settings; state = s; halves = f .halves; delays = f .delays }; servo = f .servo; table = t; watch = x; answer = a } ≡ wipedIn w r t a (emptiedOf (w .settings))
-wiped-is w s r t a f x e g h i =
-    record { unit = record { settings = w .settings; state = e i; halves = g i .halves; delays = g i .delays }; servo = g i .servo; table = t; watch = h i; answer = a }
+-- ---- a wipe: what it empties, with another state
+module _ (w : UnitWords) (s r : StateWords) (t : List MasterWords) (a : AnswerWords) where
+  pub wiped-is : {u : UnitWords} {v : Servo} {y : Watch}
+      → (u ≡ unitWith w s (emptiedOf (w .settings) .halves) (emptiedOf (w .settings) .delays)) × (v ≡ emptiedOf (w .settings) .servo) × (y ≡ freshWatch) → s ≡ r
+      → record { unit = u; servo = v; table = t; watch = y; answer = a } ≡ wipedIn w r t a (emptiedOf (w .settings))
+  wiped-is e g = (λ i. record { unit = e .0 i; servo = e .1 i; table = t; watch = e .2 i; answer = a }) ∙ ap (λ (x : StateWords). wipedIn w x t a (emptiedOf (w .settings))) g
 
 -- ---- the exchange
 module _ (w : UnitWords) (v : Servo) (t : List MasterWords) (y : Watch) (q : Told) where
@@ -89,15 +91,40 @@ module _ (w : UnitWords) (v : Servo) (t : List MasterWords) (y : Watch) (q : Tol
       (λ i. record { unit = record { settings = w .settings; state = q .state; halves = q .halves; delays = q .delays }; servo = n; table = t; watch = g i; answer = f i })
       ∙ ap (λ (m : Servo). spokenIn w t y q m) e ∙ left-is (q .barred) _ _ z
 
--- ---- the choice
-module _ (w : UnitWords) (v : Servo) (t : List MasterWords) (y : Watch) (q r : Held) (e : q ≡ r) where
-  pub held-wiped : (f : Emptied) (x : Watch) → f ≡ emptiedOf (w .settings) → x ≡ freshWatch → Holds (q .wipes)
-      → record { unit = record { settings = w .settings; state = q .state; halves = f .halves; delays = f .delays }; servo = f .servo; table = t; watch = x; answer = q .answer } ≡ heldIn w v t y r
-  held-wiped f x g h z =
-      wiped-is w (q .state) (q .state) t (q .answer) f x refl g h ∙ held-is (q .wipes) _ _ z ∙ ap (λ (k : Held). heldIn w v t y k) e
+  -- it leaves any table as it was
+  told-left : {u : UnitWords} {n : Servo} {x : Watch} {a : AnswerWords}
+      → (u ≡ toldIn w v [] y q .unit) × (n ≡ toldIn w v [] y q .servo) × (x ≡ toldIn w v [] y q .watch) × (a ≡ toldIn w v [] y q .answer)
+      → record { unit = u; servo = n; table = t; watch = x; answer = a } ≡ toldIn w v t y q
+  told-left e = (λ i. record { unit = e .0 i; servo = e .1 i; table = t; watch = e .2 i; answer = e .3 i }) ∙ by (q .barred)
+    where
+      n : Servo
+      n = servoAfter (w .settings) v (q .found) (q .steers) (q .wipes)
 
-  pub held-kept : Holds (not (q .wipes)) → says (withState w (q .state)) v t y (q .answer) ≡ heldIn w v t y r
-  held-kept z = left-is (q .wipes) _ _ z ∙ ap (λ (k : Held). heldIn w v t y k) e
+      at : Bool → List MasterWords → Lent
+      at b l = cond b (says w v l y (refusing (q .number))) (spokenIn w l y q n)
+
+      by : (b : Bool) → record { unit = at b [] .unit; servo = at b [] .servo; table = t; watch = at b [] .watch; answer = at b [] .answer } ≡ at b t
+      by true = refl
+      by false = refl
+
+pub heard-left : (w : UnitWords) (v : Servo) (t : List MasterWords) (y : Watch) (m : Message) (now : ℕ) (t2 : Stamp) {u : UnitWords} {n : Servo} {x : Watch} {a : AnswerWords}
+    → (u ≡ heardIn w v [] y m now t2 .unit) × (n ≡ heardIn w v [] y m now t2 .servo) × (x ≡ heardIn w v [] y m now t2 .watch) × (a ≡ heardIn w v [] y m now t2 .answer)
+    → record { unit = u; servo = n; table = t; watch = x; answer = a } ≡ heardIn w v t y m now t2
+heard-left w v t y m now t2 = told-left w v t y (heardTold (w .settings) (w .state) (w .halves) (w .delays) m now t2)
+
+-- ---- the choice
+module _ (w : UnitWords) (v : Servo) (t : List MasterWords) (y : Watch) (q : Held) where
+  pub held-left : {u : UnitWords} {n : Servo} {x : Watch} {a : AnswerWords}
+      → (u ≡ heldIn w v [] y q .unit) × (n ≡ heldIn w v [] y q .servo) × (x ≡ heldIn w v [] y q .watch) × (a ≡ heldIn w v [] y q .answer)
+      → record { unit = u; servo = n; table = t; watch = x; answer = a } ≡ heldIn w v t y q
+  held-left e = (λ i. record { unit = e .0 i; servo = e .1 i; table = t; watch = e .2 i; answer = e .3 i }) ∙ by (q .wipes)
+    where
+      at : Bool → List MasterWords → Lent
+      at b l = cond b (wipedIn w (q .state) l (q .answer) (emptiedOf (w .settings))) (says (withState w (q .state)) v l y (q .answer))
+
+      by : (b : Bool) → record { unit = at b [] .unit; servo = at b [] .servo; table = t; watch = at b [] .watch; answer = at b [] .answer } ≡ at b t
+      by true = refl
+      by false = refl
 
 -- the choice over the five
 pub best-is : (w : UnitWords) (t : List MasterWords) (now n : ℕ) (c0 c1 c2 c3 c4 : Candidate) → n ≡ intervalOf (w .settings .announce)
@@ -109,7 +136,7 @@ best-is w t now n c0 c1 c2 c3 c4 e e0 e1 e2 e3 e4 = rw (e0, e1, e2, e3, e4, e)
 module _ (w : UnitWords) (t : List MasterWords) (m : Message) (now n : ℕ) (a0 a1 a2 a3 a4 : Looked) (e : n ≡ intervalOf (w .settings .announce))
     (e0 : a0 ≡ lookedOf m now n (recordIn (getD t 0 noMaster))) (e1 : a1 ≡ lookedOf m now n (recordIn (getD t 1 noMaster))) (e2 : a2 ≡ lookedOf m now n (recordIn (getD t 2 noMaster)))
     (e3 : a3 ≡ lookedOf m now n (recordIn (getD t 3 noMaster))) (e4 : a4 ≡ lookedOf m now n (recordIn (getD t 4 noMaster))) where
-  pub seat-is : (p : Seat) → p ≡ seatBy (w .settings) (w .state) m now (a0 .standing) (a1 .standing) (a2 .standing) (a3 .standing) (a4 .standing) → p ≡ seatIn w t m now
+  pub seat-is : (p : Seated) → p ≡ seatBy (w .settings) (w .state) m now (a0 .standing) (a1 .standing) (a2 .standing) (a3 .standing) (a4 .standing) → p ≡ seatIn w t m now
   seat-is p k = k ∙ rw (e0, e1, e2, e3, e4, e)
 
   -- and the choice once the record x is stored there
@@ -133,19 +160,36 @@ module _ (w : UnitWords) (t : List MasterWords) (m : Message) (now n : ℕ) (a0 
       picked (b0 ∷ b1 ∷ b2 ∷ b3 ∷ b4 ∷ b5 ∷ l) f k h = absurd (omega (arith, f))
 
 -- it is one of five, whatever the standings are
+seated-small : (v : Ruling) (at : ℕ) (known : Bool) → at < 5 → numberedBy v at known .at < 5
+seated-small Clear at known h = h
+seated-small (Barred n) at known h = omega arith
+
 unless-small : (v : Ruling) (p : Seat) → p .at < 5 → seatUnless v p .at < 5
-unless-small Clear p h = h
+unless-small Clear p h = seated-small (p .ruling) (p .at) (p .known) h
 unless-small (Barred n) p h = omega arith
 
 pub seat-within : (s : SettingsWords) (r : StateWords) (m : Message) (now : ℕ) (a0 a1 a2 a3 a4 : Standing) → seatBy s r m now a0 a1 a2 a3 a4 .at < 5
 seat-within s r m now a0 a1 a2 a3 a4 = unless-small (barredOf (announceIn m) (s .domain) (ownIn s) (r .now) now) (seatOf a0 a1 a2 a3 a4) (seat-small a0 a1 a2 a3 a4)
 
-module _ (w : UnitWords) (v : Servo) (t : List MasterWords) (y : Watch) (m : Message) (now : ℕ) (p : Seat) where
+module _ (w : UnitWords) (v : Servo) (t : List MasterWords) (y : Watch) (m : Message) (now : ℕ) (p : Seated) where
   pub seat-refused : (a : AnswerWords) → a ≡ refusing (p .number) → Holds (p .barred) → says w v t y a ≡ seatedIn w v t y m now p
   seat-refused a e z = ap (λ (b : AnswerWords). says w v t y b) e ∙ held-is (p .barred) _ _ z
 
   pub seat-taken : Holds (not (p .barred)) → (l : List MasterWords) → l ≡ placedIn t m now p → heldIn w v l y (heldOf (w .state) now (chosenIn w l now)) ≡ seatedIn w v t y m now p
   seat-taken z l e = ap (λ (k : List MasterWords). heldIn w v k y (heldOf (w .state) now (chosenIn w k now))) e ∙ left-is (p .barred) _ _ z
+
+-- ---- an Announce
+module _ (w : UnitWords) (v : Servo) (t : List MasterWords) (y : Watch) (m : Message) (now : ℕ) where
+  pub announce-untabled : (a : AnswerWords) → a ≡ untabledOf → Holds (not (eqb (length t) 5)) → says w v t y a ≡ announcedIn w v t y m now
+  announce-untabled a e z = ap (λ (b : AnswerWords). says w v t y b) e ∙ left-is (eqb (length t) 5) _ _ z
+
+  pub announce-is : Holds (not (not (eqb (length t) 5))) → (p : Seated) → p ≡ seatIn w t m now → seatedIn w v t y m now p ≡ announcedIn w v t y m now
+  announce-is good p e = ap (λ (x : Seated). seatedIn w v t y m now x) e ∙ five-is (eqb (length t) 5) _ _ good
+
+  pub announce-left : {u : UnitWords} {n : Servo} {l : List MasterWords} {x : Watch} {a : AnswerWords}
+      → (u ≡ announcedIn w v t y m now .unit) × (n ≡ announcedIn w v t y m now .servo) × (l ≡ announcedIn w v t y m now .table) × (x ≡ announcedIn w v t y m now .watch) × (a ≡ announcedIn w v t y m now .answer)
+      → record { unit = u; servo = n; table = l; watch = x; answer = a } ≡ announcedIn w v t y m now
+  announce-left e i = record { unit = e .0 i; servo = e .1 i; table = e .2 i; watch = e .3 i; answer = e .4 i }
 
 -- ---- a message
 module _ (w : UnitWords) (v : Servo) (t : List MasterWords) (y : Watch) (o : List ℕ) (now : ℕ) (t2 : Stamp) (k : Received) (e : k ≡ receivedBy (readOf o)) where
@@ -158,16 +202,16 @@ module _ (w : UnitWords) (v : Servo) (t : List MasterWords) (y : Watch) (o : Lis
   pub way-untabled : (a : AnswerWords) → a ≡ untabledOf → Holds (not (k .barred)) → Holds (not (eqb (length t) 5)) → says w v t y a ≡ receiveOf w v t y o now t2
   way-untabled a f z l = ap (λ (b : AnswerWords). says w v t y b) f ∙ left-is (eqb (length t) 5) _ _ l ∙ left-is (k .barred) _ _ z ∙ received-is
 
+  pub way-announced : Holds (not (k .barred)) → Holds (k .announces) → announcedIn w v t y (k .message) now ≡ receiveOf w v t y o now t2
+  way-announced z h =
+      ap (λ (x : Lent). cond (eqb (length t) 5) x (says w v t y untabledOf)) (held-is (k .announces) _ _ h) ∙ left-is (k .barred) _ _ z ∙ received-is
+
   module _ (z : Holds (not (k .barred))) (good : Holds (not (not (eqb (length t) 5)))) where
     open-is : openIn w v t y k now t2 ≡ receiveOf w v t y o now t2
     open-is = five-is (eqb (length t) 5) _ _ good ∙ left-is (k .barred) _ _ z ∙ received-is
 
-    pub way-announced : Holds (k .announces) → (p : Seat) → p ≡ seatIn w t (k .message) now → seatedIn w v t y (k .message) now p ≡ receiveOf w v t y o now t2
-    way-announced h p f = ap (λ (x : Seat). seatedIn w v t y (k .message) now x) f ∙ held-is (k .announces) _ _ h ∙ open-is
-
-    pub way-heard : Holds (not (k .announces)) → (q : Told) → q ≡ heardTold (w .settings) (w .state) (w .halves) (w .delays) (k .message) now t2
-        → toldIn w v t y q ≡ receiveOf w v t y o now t2
-    way-heard h q f = ap (λ (x : Told). toldIn w v t y x) f ∙ left-is (k .announces) _ _ h ∙ open-is
+    pub way-heard : Holds (not (k .announces)) → heardIn w v t y (k .message) now t2 ≡ receiveOf w v t y o now t2
+    way-heard h = left-is (k .announces) _ _ h ∙ open-is
 
 -- ---- the bare time call
 module _ (w : UnitWords) (v : Servo) (t : List MasterWords) (y : Watch) (now : ℕ) where
@@ -182,9 +226,10 @@ module _ (w : UnitWords) (v : Servo) (y : Watch) (reference clock : ℤ) (q : Ti
   ticked-is : tickedIn w v (takenOf (watchIn (w .settings)) y reference clock) q ≡ tickOf w v y reference clock
   ticked-is = ap (λ (x : Ticked). tickedIn w v (takenOf (watchIn (w .settings)) y reference clock) x) e
 
-  pub tick-wiped : (s : StateWords) (f : Emptied) (x : Watch) → s ≡ wipedState (w .state) → f ≡ emptiedOf (w .settings) → x ≡ freshWatch → Holds (q .wipes)
-      → record { unit = record { settings = w .settings; state = s; halves = f .halves; delays = f .delays }; servo = f .servo; table = []; watch = x; answer = q .answer } ≡ tickOf w v y reference clock
-  tick-wiped s f x g h k z = wiped-is w s (wipedState (w .state)) [] (q .answer) f x g h k ∙ held-is (q .wipes) _ _ z ∙ ticked-is
+  pub tick-wiped : (s : StateWords) {u : UnitWords} {n : Servo} {x : Watch}
+      → (u ≡ unitWith w s (emptiedOf (w .settings) .halves) (emptiedOf (w .settings) .delays)) × (n ≡ emptiedOf (w .settings) .servo) × (x ≡ freshWatch) → s ≡ wipedState (w .state) → Holds (q .wipes)
+      → record { unit = u; servo = n; table = []; watch = x; answer = q .answer } ≡ tickOf w v y reference clock
+  tick-wiped s f g z = wiped-is w s (wipedState (w .state)) [] (q .answer) f g ∙ held-is (q .wipes) _ _ z ∙ ticked-is
 
   pub tick-kept : (x : Watch) → x ≡ takenOf (watchIn (w .settings)) y reference clock .watch → Holds (not (q .wipes)) → says w v [] x (q .answer) ≡ tickOf w v y reference clock
   tick-kept x g z = ap (λ (k : Watch). says w v [] k (q .answer)) g ∙ left-is (q .wipes) _ _ z ∙ ticked-is

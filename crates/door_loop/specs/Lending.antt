@@ -12,9 +12,9 @@ use Rattle.wire_layout.specs.Reading.{readOf}
 use Rattle.rules_masters.specs.declared.chosen.Chosen.{Chosen}
 use Rattle.rules_masters.specs.declared.standing.Standing.{Standing}
 use Rattle.rules_masters.specs.declared.candidate.Candidate.{Candidate}
-use Rattle.rules_masters.specs.declared.standing.Seat.{Seat}
 use Rattle.rules_masters.specs.Records.{intervalOf, freshRecord}
-use Rattle.rules_masters.specs.Inner.{standingOf, candidateOf, bestOf}
+use Rattle.rules_masters.specs.Admitting.{standingOf}
+use Rattle.rules_masters.specs.Inner.{candidateOf, bestOf}
 use Rattle.rules_servo.specs.declared.Servo.{Servo}
 use Rattle.rules_watch.specs.declared.Watch.{Watch}
 use Rattle.rules_watch.specs.declared.Taken.{Taken}
@@ -28,17 +28,18 @@ use Rattle.door_records.specs.Unit.{watchIn}
 use Rattle.door_records.specs.Masters.{recordIn, masterWords}
 use Rattle.door_words.specs.declared.answers.AnswerWords.{AnswerWords}
 use Rattle.door_words.specs.Answers.{plain, refusing}
-use Rattle.door_steps.specs.declared.receiving.Received.{Received}
-use Rattle.door_steps.specs.declared.measuring.Told.{Told}
-use Rattle.door_steps.specs.declared.choosing.Held.{Held}
-use Rattle.door_steps.specs.declared.wiping.Emptied.{Emptied}
-use Rattle.door_steps.specs.declared.ticking.Ticked.{Ticked}
-use Rattle.door_steps.specs.Wiping.{wipedState, resetState, emptiedOf}
-use Rattle.door_steps.specs.Receiving.{receivedBy}
-use Rattle.door_steps.specs.Measuring.{heardTold, sentTold, servoAfter, outputSaid}
-use Rattle.door_steps.specs.Asking.{requestedOf}
-use Rattle.door_steps.specs.Choosing.{seatBy, placedOf, heldOf, timedOf, untabledOf}
-use Rattle.door_steps.specs.Ticking.{tickedBy}
+use Rattle.door_core.specs.declared.receiving.Received.{Received}
+use Rattle.door_core.specs.declared.wiping.Emptied.{Emptied}
+use Rattle.door_core.specs.declared.ticking.Ticked.{Ticked}
+use Rattle.door_core.specs.Wiping.{wipedState, resetState, emptiedOf}
+use Rattle.door_core.specs.Receiving.{receivedBy}
+use Rattle.door_core.specs.Ticking.{tickedBy}
+use Rattle.door_choosing.specs.declared.Held.{Held}
+use Rattle.door_choosing.specs.declared.Seated.{Seated}
+use Rattle.door_choosing.specs.Choosing.{seatBy, placedOf, heldOf, timedOf, untabledOf}
+use Rattle.door_measuring.specs.declared.measuring.Told.{Told}
+use Rattle.door_measuring.specs.Measuring.{heardTold, sentTold, servoAfter, outputSaid}
+use Rattle.door_measuring.specs.Asking.{requestedOf}
 
 pub record Lent : Type 0 where
   pub unit : UnitWords
@@ -76,6 +77,9 @@ spokenIn u t w q n =
 abbrev pub toldIn : UnitWords → Servo → List MasterWords → Watch → Told → Lent
 toldIn u v t w q = cond (q .barred) (says u v t w (refusing (q .number))) (spokenIn u t w q (servoAfter (u .settings) v (q .found) (q .steers) (q .wipes)))
 
+abbrev pub heardIn : UnitWords → Servo → List MasterWords → Watch → Message → ℕ → Stamp → Lent
+heardIn u v t w m now t2 = toldIn u v t w (heardTold (u .settings) (u .state) (u .halves) (u .delays) m now t2)
+
 -- ---- the choice
 abbrev pub heldIn : UnitWords → Servo → List MasterWords → Watch → Held → Lent
 heldIn u v t w q = cond (q .wipes) (wipedIn u (q .state) t (q .answer) (emptiedOf (u .settings))) (says (withState u (q .state)) v t w (q .answer))
@@ -94,23 +98,27 @@ abbrev pub chosenIn : UnitWords → List MasterWords → ℕ → Chosen
 chosenIn u t now = bestOf (candidateAt u t now 0) (candidateAt u t now 1) (candidateAt u t now 2) (candidateAt u t now 3) (candidateAt u t now 4)
 
 -- the Announce is refused, or one place of the table is stored and the choice is made over the five
-abbrev pub placedIn : List MasterWords → Message → ℕ → Seat → List MasterWords
+abbrev pub placedIn : List MasterWords → Message → ℕ → Seated → List MasterWords
 placedIn t m now p = set t (p .at) (placedOf (getD t (p .at) noMaster) m (p .known) now)
 
-abbrev pub seatedIn : UnitWords → Servo → List MasterWords → Watch → Message → ℕ → Seat → Lent
+abbrev pub seatedIn : UnitWords → Servo → List MasterWords → Watch → Message → ℕ → Seated → Lent
 seatedIn u v t w m now p =
     cond (p .barred) (says u v t w (refusing (p .number)))
     (heldIn u v (placedIn t m now p) w (heldOf (u .state) now (chosenIn u (placedIn t m now p) now)))
 
-abbrev pub seatIn : UnitWords → List MasterWords → Message → ℕ → Seat
+abbrev pub seatIn : UnitWords → List MasterWords → Message → ℕ → Seated
 seatIn u t m now =
     seatBy (u .settings) (u .state) m now (standingAt u t m now 0) (standingAt u t m now 1) (standingAt u t m now 2) (standingAt u t m now 3) (standingAt u t m now 4)
+
+-- 8 of a table that is not of five comes first
+abbrev pub announcedIn : UnitWords → Servo → List MasterWords → Watch → Message → ℕ → Lent
+announcedIn u v t w m now = cond (eqb (length t) 5) (seatedIn u v t w m now (seatIn u t m now)) (says u v t w untabledOf)
 
 -- ---- a message: what is refused in reading and 3 of a Delay_Req come first, then 8 of a table that is not of five
 abbrev pub openIn : UnitWords → Servo → List MasterWords → Watch → Received → ℕ → Stamp → Lent
 openIn u v t w k now t2 =
     cond (k .announces) (seatedIn u v t w (k .message) now (seatIn u t (k .message) now))
-    (toldIn u v t w (heardTold (u .settings) (u .state) (u .halves) (u .delays) (k .message) now t2))
+    (heardIn u v t w (k .message) now t2)
 
 abbrev pub receivedIn : UnitWords → Servo → List MasterWords → Watch → Received → ℕ → Stamp → Lent
 receivedIn u v t w k now t2 =

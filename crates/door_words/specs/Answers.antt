@@ -3,13 +3,13 @@ use Prim.Native.Nat.{ℕ}
 use mathlib.Core.Bool.{false, cond}
 use lib.IntN.{pos}
 use lib.Ieee.{fin}
-use Rattle.numbers.specs.Refusals.{numberOf}
+use Rattle.numbers.specs.Orders.{numberOf}
 use Rattle.numbers.specs.declared.units.Nanoseconds.{Nanoseconds}
 use Rattle.numbers.specs.declared.units.Ppb.{Ppb}
 use Rattle.rules_masters.specs.declared.chosen.Chosen.{Chosen}
 use Rattle.rules_masters.specs.Holding.{freshChosen}
 use Rattle.rules_masters.specs.declared.chosen.Decision.{Decision}
-use Rattle.rules_masters.specs.declared.chosen.Decision.the-variants.{Same, Changed}
+use Rattle.rules_masters.specs.Holding.{masterOf, codeOf as choiceCode}
 use Rattle.rules_exchange.specs.declared.Accepted.{Accepted}
 use Rattle.rules_exchange.specs.declared.said.Said.{Said}
 use Rattle.rules_exchange.specs.Said.{codeOf, sequenceIn, foundIn, steersOf}
@@ -73,8 +73,7 @@ showing s = record { code = 23; refused = 0; port = portCode (s .port); servo = 
 
 -- the choice
 abbrev pub choosing : Decision → AnswerWords
-choosing (Same m) = naming 1 m
-choosing (Changed m) = naming 2 m
+choosing d = naming (choiceCode d) (masterOf d)
 
 -- the exchange: only a measurement carries the output
 abbrev pub exchanging : Said → Ppb → AnswerWords

@@ -7,7 +7,7 @@ use lib.ListN.{length}
 use Rattle.numbers.specs.declared.stamp.Stamp.{Stamp}
 use Rattle.numbers.specs.Stamps.{noStamp}
 use Rattle.numbers.specs.declared.refusal.Refusal.the-variants.{Kind}
-use Rattle.numbers.specs.Refusals.{numberOf}
+use Rattle.numbers.specs.Orders.{numberOf}
 use Rattle.wire_layout.specs.declared.message.Port.{Port}
 use Rattle.wire_layout.specs.declared.message.Header.{Header}
 use Rattle.wire_layout.specs.declared.message.Offer.{Offer}

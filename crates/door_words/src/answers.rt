@@ -1,6 +1,6 @@
 // An answer of the unit as numbers. What a code does not carry is 0.
 ghost use mathlib.Core.Path.{_≡_};
-ghost use Rattle.numbers.specs.Refusals.{numberOf};
+ghost use Rattle.numbers.specs.Orders.{numberOf};
 ghost use Rattle.door_words.specs.Answers.{portCode, servoCode, noLine, plain, refusing, naming, spoken, lining, showing, choosing, driftWords};
 use door_records::unit::ChosenWords;
 use numbers::units::Nanoseconds;
@@ -109,10 +109,7 @@ impl AnswerWords {
     pub fn choosing(decision: Decision) -> AnswerWords
         ensures { λ r. ⌜ r ≡ choosing decision ⌝ }
     {
-        match decision {
-            Decision::Same(master) => AnswerWords::naming(1, master),
-            Decision::Changed(master) => AnswerWords::naming(2, master),
-        }
+        AnswerWords::naming(decision.code(), decision.master())
     }
 
     // Of the exchange: its code, and what that carries.

@@ -1,10 +1,14 @@
 // A message as numbers: read from octets, and written to them.
 ghost use mathlib.Core.Path.{_≡_};
 ghost use lib.ListN.{length};
-ghost use Rattle.wire_layout.specs.Reading.{readOf};
+ghost use Rattle.numbers.specs.declared.ruling.Ruling.the-variants.{Clear};
+ghost use Rattle.numbers.specs.Grounds.{firstOf};
+ghost use Rattle.wire_layout.specs.Positions.{messageOf};
+ghost use Rattle.wire_layout.specs.Reading.{readingGrounds, suffixAt, readOf};
 ghost use Rattle.rules_masters.specs.Records.{noOffer};
-ghost use Rattle.door_words.specs.Messages.{noPort, refusedWords, requesterIn, offerIn, gotWords, readWords, byKind, messageBy, writtenBy, leftWords};
+ghost use Rattle.door_words.specs.Messages.{noPort, refusedWords, offerIn, gotWords, readWords, byKind, messageBy, writtenBy, leftWords};
 use numbers::refusal::Refusal;
+use numbers::ruling::Ruling;
 use numbers::stamp::Stamp;
 use rules_masters::record::Record;
 use wire_layout::kinds;
@@ -12,10 +16,9 @@ use wire_layout::message::Body;
 use wire_layout::message::Header;
 use wire_layout::message::Message;
 use wire_layout::message::Offer;
-use wire_layout::message::Part;
 use wire_layout::message::Port;
-use wire_layout::message::Read;
 use wire_layout::message::Written;
+use wire_octets::u16_at;
 
 #[repr(C)]
 pub struct MessageWords {
@@ -58,18 +61,6 @@ fn no_offer() -> Offer
     none.offer
 }
 
-fn requester_in(body: Body) -> Port
-    ensures { λ r. ⌜ r ≡ requesterIn body ⌝ }
-{
-    match body {
-        Body::Sync(_) => nobody(),
-        Body::DelayReq(_) => nobody(),
-        Body::FollowUp(_) => nobody(),
-        Body::DelayResp(_, requester) => requester,
-        Body::Announce(_, _) => nobody(),
-    }
-}
-
 pub fn offer_in(body: Body) -> Offer
     ensures { λ r. ⌜ r ≡ offerIn body ⌝ }
 {
@@ -103,20 +94,49 @@ impl MessageWords {
         }
     }
 
-    fn got(m: Message, suffix: Part) -> MessageWords
-        ensures { λ r. ⌜ r ≡ gotWords m suffix ⌝ }
+    // The words of octets that nothing bars, each field from where it lies. Each case returns by itself: where they met, the compiler read numbers
+    // octet by octet (docs/DECISIONS.md).
+    fn got(s: &[u8]) -> MessageWords
+        requires { ⌜ firstOf (readingGrounds (now s)) ≡ Clear ⌝ }
+        ensures { λ r. ⌜ r ≡ gotWords (messageOf (now (s .entry))) (suffixAt (now (s .entry))) ⌝ }
     {
-        let header = m.header;
-        let body = m.body;
+        let stamp = wire_reader::stamp_at(s, 34);
+        let header = wire_reader::header_of(s);
+        let to = u16_at(s, 2) as usize;
+        let kind = s[0] % 16;
+        if kind == kinds::DelayResp::KIND {
+            return MessageWords {
+                refused: 0,
+                kind,
+                header,
+                stamp,
+                requester: wire_reader::port_at(s, 44),
+                offer: no_offer(),
+                from: kinds::DelayResp::LENGTH,
+                to,
+            };
+        }
+        if kind == kinds::Announce::KIND {
+            return MessageWords {
+                refused: 0,
+                kind,
+                header,
+                stamp,
+                requester: nobody(),
+                offer: wire_reader::offer_of(s),
+                from: kinds::Announce::LENGTH,
+                to,
+            };
+        }
         MessageWords {
             refused: 0,
-            kind: body.kind(),
+            kind,
             header,
-            stamp: body.stamp(),
-            requester: requester_in(body),
-            offer: offer_in(body),
-            from: suffix.from,
-            to: suffix.to,
+            stamp,
+            requester: nobody(),
+            offer: no_offer(),
+            from: kinds::Sync::LENGTH,
+            to,
         }
     }
 
@@ -124,9 +144,9 @@ impl MessageWords {
     pub fn read(octets: &[u8]) -> MessageWords
         ensures { λ r. ⌜ r ≡ readWords (readOf (now (octets .entry))) ⌝ }
     {
-        match wire_reader::read(octets) {
-            Read::Got(m, suffix) => MessageWords::got(m, suffix),
-            Read::Refused(number) => MessageWords::refusing(number.number()),
+        match wire_reader::barred(octets) {
+            Ruling::Barred(refusal) => MessageWords::refusing(refusal.number()),
+            Ruling::Clear => MessageWords::got(octets),
         }
     }
 

@@ -1,22 +1,9 @@
 -- Refusals in their order: each with whether it is due, and the first that is.
-use mathlib.Core.Bool.{Bool, false, cond}
+use mathlib.Core.Bool.{Bool, cond}
 use mathlib.Core.List.{List, [], _∷_}
-use lib.Dec.{eqb}
 use Rattle.numbers.specs.declared.refusal.Refusal.{Refusal}
 use Rattle.numbers.specs.declared.ruling.Ruling.{Ruling}
 use Rattle.numbers.specs.declared.ruling.Ruling.the-variants.{Clear, Barred}
-use Rattle.numbers.specs.Refusals.{numberOf}
-
--- which refusals are due of a call. Whoever says so begins with none, and names those alone that his call can meet
-abbrev pub Due : Type 0
-Due = Refusal → Bool
-
-abbrev pub noneDue : Due
-noneDue refusal = false
-
--- this refusal is due where `so` says it; every other as before
-abbrev pub dueWith : Refusal → (so : Bool) → Due → Due
-dueWith refusal so due other = cond (eqb (numberOf other) (numberOf refusal)) so (due other)
 
 -- a refusal, and whether it is due
 pub record Ground : Type 0 where

@@ -4,8 +4,8 @@ use mathlib.Core.List.{List}
 use Prim.Native.Nat.{ℕ, _+_}
 use lib.Dec.{leb, ltb}
 use lib.IntN.{ℤ, pos, natAbs, _+ℤ_, _-ℤ_}
-use Rattle.numbers.specs.Grounds.{Ground, Due, firstOf, noneDue, dueWith}
-use Rattle.numbers.specs.Orders.{ofExchange}
+use Rattle.numbers.specs.Grounds.{Ground, firstOf}
+use Rattle.numbers.specs.Orders.{Due, noneDue, dueWith, ofExchange}
 use Rattle.numbers.specs.Stamps.{noStamp, soundOf, belowOf}
 use Rattle.numbers.specs.declared.stamp.Stamp.{Stamp}
 use Rattle.numbers.specs.declared.refusal.Refusal.{Refusal}
@@ -62,7 +62,7 @@ local (requested n) = noLocal
 local (sent n t3) = stamp t3
 local (delayResp n c t4 p own) = noLocal
 
--- FIELD of a t2 or t3, which the unit asks before anything else (rule 3.5)
+-- FIELD of a stamp, which the unit asks before anything else (rule 3.5)
 abbrev pub fieldOf : Stamp → Bool
 fieldOf t = not (soundOf t)
 

@@ -11,7 +11,7 @@ ghost use Rattle.rules_exchange.specs.Table.{samePort};
 ghost use Rattle.rules_exchange.specs.Inner.{partnersOf};
 ghost use Rattle.rules_exchange.specs.Events.{fieldOf, correctionOf};
 
-// FIELD of t2 or t3.
+// FIELD of a stamp.
 pub fn field(t: Stamp) -> bool
     ensures { λ r. ⌜ r ≡ fieldOf t ⌝ }
 {

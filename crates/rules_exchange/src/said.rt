@@ -1,7 +1,9 @@
-// What an event that was taken comes to: the answers, what each says to whoever reads it, and the verdicts on a finished measurement.
+// What an event comes to: the answers, what each says to whoever reads it, one method for each event, by the table of specs/Table.antt (rules 7.1 to
+// 7.24), and the verdicts on a finished measurement. A new answer has all of its code here.
 use crate::Accepted;
 use crate::Answered;
 use crate::Exchange;
+use crate::Last;
 use crate::brief::Brief;
 use crate::brief::asks;
 use crate::brief::faults;
@@ -11,18 +13,24 @@ use crate::brief::steps;
 use crate::brief::wipes;
 use crate::halves::Request;
 use crate::halves::Sync;
+use crate::halves::times;
+use crate::refusals;
+use numbers::refusal::Refusal;
+use numbers::stamp::Stamp;
 use numbers::units::Nanoseconds;
 use rules_measure::Sum;
 use rules_measure::Times;
 use rules_measure::huge;
 use rules_measure::is_step;
 use rules_measure::judge_sum;
+use wire_layout::message::Port;
 ghost use mathlib.Core.Path.{_≡_};
 ghost use Prim.Native.Nat.{_^_};
 ghost use Rattle.numbers.specs.Integers.{Within};
 ghost use Rattle.rules_exchange.specs.Said.{codeOf, wipesOf, faultsOf, steersOf, sequenceIn, foundIn};
 ghost use Rattle.rules_exchange.specs.Inner.{briefOf};
-ghost use Rattle.rules_exchange.specs.Events.{saidWith, withRows, hugeAgain, pathAgain, accepted, judged, finished};
+ghost use Rattle.rules_exchange.specs.Table.{sync, followUp, requested, sent, delayResp};
+ghost use Rattle.rules_exchange.specs.Events.{saidWith, stamp, stampTaken, told, withRows, hugeAgain, pathAgain, accepted, judged, finished};
 
 pub enum Said {
     Held, // the Sync is held
@@ -103,6 +111,116 @@ impl Said {
     {
         let brief = self.brief();
         brief.found
+    }
+}
+
+// The events.
+impl Exchange {
+    // The stamp is taken, and `next` is what the exchange becomes by it; or it is BACK, and nothing is taken.
+    fn take_stamp(self, mut next: Exchange, t: Stamp, said: Said) -> Answered
+        ensures { λ r. ⌜ r ≡ stampTaken (stamp t) said self next ⌝ }
+    {
+        let last = self.last;
+        if last.is_above(t) {
+            return self.say(Said::Back);
+        }
+        let newest = Last {
+            taken: true,
+            stamp: t,
+        };
+        next.last = newest;
+        next.say(said)
+    }
+
+    // A Sync, taken at t2. A one-step Sync carries t1 itself; of a two-step one the Follow_Up brings it.
+    pub fn sync(
+        self,
+        two_step: bool,
+        sequence: u16,
+        correction: i64,
+        t1: Stamp,
+        t2: Stamp,
+    ) -> Answered
+        ensures { λ r. ⌜ r ≡ told self (sync «two_step» sequence correction t1 t2) ⌝ }
+    {
+        if refusals::correction(correction) {
+            return self.refuse(Refusal::Correction);
+        }
+        let mut next = self;
+        next.sync = Sync::heard(two_step, sequence, correction, t1, t2);
+        self.take_stamp(next, t2, Said::Held)
+    }
+
+    // A Follow_Up: t1 of the Sync that waits for it.
+    pub fn follow_up(mut self, sequence: u16, correction: i64, t1: Stamp) -> Answered
+        ensures { λ r. ⌜ r ≡ told self (followUp sequence correction t1) ⌝ }
+    {
+        if refusals::correction(correction) {
+            return self.refuse(Refusal::Correction);
+        }
+        let mut sync = self.sync;
+        if sync.waits_for(sequence) {
+            sync.known = true;
+            sync.t1 = t1;
+            sync.follow = correction;
+            self.sync = sync;
+            self.say(Said::Paired)
+        } else {
+            self.refuse(Refusal::Unmatched)
+        }
+    }
+
+    // A request of this sequenceId was written.
+    pub fn request(mut self, sequence: u16) -> Answered
+        ensures { λ r. ⌜ r ≡ told self (requested sequence) ⌝ }
+    {
+        let request = Request {
+            pending: true,
+            given: false,
+            sequence,
+            t3: Stamp::zero(),
+        };
+        self.request = request;
+        self.say(Said::Asked(sequence))
+    }
+
+    // The request of this sequenceId left at t3.
+    pub fn sent(self, sequence: u16, t3: Stamp) -> Answered
+        ensures { λ r. ⌜ r ≡ told self (sent sequence t3) ⌝ }
+    {
+        let mut request = self.request;
+        if request.waits_for(sequence) {
+            request.given = true;
+            request.t3 = t3;
+            let mut next = self;
+            next.request = request;
+            self.take_stamp(next, t3, Said::Stamped)
+        } else {
+            self.refuse(Refusal::Unmatched)
+        }
+    }
+
+    // A Delay_Resp: t4 of the request, which it finishes.
+    pub fn delay_resp(
+        self,
+        sequence: u16,
+        correction: i64,
+        t4: Stamp,
+        requester: Port,
+        own: Port,
+    ) -> Answered
+        ensures { λ r. ⌜ r ≡ told self (delayResp sequence correction t4 requester own) ⌝ }
+    {
+        if refusals::correction(correction) {
+            return self.refuse(Refusal::Correction);
+        }
+        let sync = self.sync;
+        let request = self.request;
+        if refusals::partners(sync, request, sequence, requester, own) {
+            self.finish(times(sync, request, t4, correction))
+        } else {
+            self.refuse(Refusal::Unmatched)
+        }
     }
 }
 

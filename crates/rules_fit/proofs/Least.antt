@@ -184,6 +184,29 @@ least l t q p r no-same = go (decLe (spread (du l q p r) (dw l q p r) l) 0)
         absurd (no-same (same (q *ℤ level l) (over l *ℤ p) (f .0), same (q *ℤ slope l) (over l *ℤ r) (f .1)))
     go (no h) = omega (arith, exact l q p r)
 
+-- a common factor goes
+shorter : (m a b : ℤ) → m ≢ pos 0 → m *ℤ a ≡ m *ℤ b → a ≡ b
+shorter m a b h e =
+    sym
+    (same a b
+    (domain m (a -ℤ b) h
+    (ring (v 0 ⊗ (v 1 ⊖ v 2)) (v 0 ⊗ v 1 ⊖ v 0 ⊗ v 2) (m ∷ a ∷ b ∷ []) tt
+    ∙ ap (λ (z : ℤ). z -ℤ m *ℤ b) e
+    ∙ ring (v 0 ⊗ v 1 ⊖ v 0 ⊗ v 1) (k (pos 0)) (m ∷ b ∷ []) tt)))
+
+-- the same where level p / d and slope r / e are fractions of their own
+pub least-apart : (l : List Point) → Two l → (d p e r : ℤ) → d ≢ pos 0 → e ≢ pos 0 → ¬ ((over l *ℤ p ≡ d *ℤ level l) × (over l *ℤ r ≡ e *ℤ slope l))
+    → sq (d *ℤ e) * cost (over l) (level l) (slope l) l < cost (d *ℤ e) (p *ℤ e) (r *ℤ d) l * sq (over l)
+least-apart l t d p e r hd he no-same =
+    least l t (d *ℤ e) (p *ℤ e) (r *ℤ d)
+    (λ (f : (over l *ℤ (p *ℤ e) ≡ d *ℤ e *ℤ level l) × (over l *ℤ (r *ℤ d) ≡ d *ℤ e *ℤ slope l)).
+    no-same (
+      shorter e (over l *ℤ p) (d *ℤ level l) he
+          (ring (v 0 ⊗ (v 1 ⊗ v 2)) (v 1 ⊗ (v 2 ⊗ v 0)) (e ∷ over l ∷ p ∷ []) tt ∙ f .0 ∙ ring (v 1 ⊗ v 0 ⊗ v 2) (v 0 ⊗ (v 1 ⊗ v 2)) (e ∷ d ∷ level l ∷ []) tt),
+      shorter d (over l *ℤ r) (e *ℤ slope l) hd
+          (ring (v 0 ⊗ (v 1 ⊗ v 2)) (v 1 ⊗ (v 2 ⊗ v 0)) (d ∷ over l ∷ r ∷ []) tt ∙ f .1 ∙ ring (v 0 ⊗ v 1 ⊗ v 2) (v 0 ⊗ (v 1 ⊗ v 2)) (d ∷ e ∷ slope l ∷ []) tt),
+    ))
+
 -- ---- the denominator is above 0
 spread-is : (u w : ℤ) (l : List Point) → pos (spread u w l) ≡ u *ℤ u *ℤ count l +ℤ (u *ℤ w *ℤ sumX l +ℤ u *ℤ w *ℤ sumX l) +ℤ w *ℤ w *ℤ sumXX l
 unfolding spread total

@@ -1,9 +1,10 @@
 -- The admission of an Announce: how it ends, what it changes in the table, and that no sender ever has two live records.
 use mathlib.Core.Path.{_≡_, refl, sym, ap, _∙_}
 use mathlib.Core.Bool.{Bool, true, false, cond, not, true≢false, _&&_}
+use mathlib.Core.List.{map}
 use Prim.Native.Nat.{ℕ, _≤_, _<_}
 use native.Mathlib.Omega.{arith}
-use lib.Dec.{leb, eqb}
+use lib.Dec.{ltb, leb}
 use lib.ListN.{length, getD, set, length-set}
 use lib.Seq.{getD-set-same, getD-set-other}
 use borrow.Author.Tests.{ltb-true, ltb-false, leb-false, eqb-false, not-true}
@@ -14,28 +15,30 @@ use Rattle.wire_layout.specs.declared.message.Port.{Port}
 use Rattle.rules_masters.specs.declared.record.Announce.{Announce}
 use Rattle.rules_masters.specs.declared.record.Record.{Record}
 use Rattle.rules_masters.specs.declared.table.Table.{Table}
+use Rattle.rules_masters.specs.declared.standing.Standing.{Standing}
 use Rattle.rules_masters.specs.declared.admission.Answer.{Answer}
 use Rattle.rules_masters.specs.declared.admission.Answer.the-variants.{Refused, Renewed, Entered}
 use Rattle.rules_masters.specs.declared.admission.Admitted.{Admitted}
 use Rattle.rules_masters.specs.Records.{intervalOf, liveOf, knownOf, freshRecord, enteredOf, renewedOf}
-use Rattle.rules_masters.specs.Places.{placeOf, countOf, absent}
-use Rattle.rules_masters.specs.Admitting.{home, isKnown, isRepeat, isFull, acceptedOf, groundsOf, admittedBy, admittedOf}
+use Rattle.rules_masters.specs.Places.{placeOf, countOf}
+use Rattle.rules_masters.specs.Admitting.{isRepeat, isFull, standingsIn, acceptedOf, groundsOf, admittedBy, admittedOf}
 use Rattle.rules_masters.proofs.Barring.{clear-announce}
-use Rattle.rules_masters.proofs.Placing.{place-holds, place-there, has-room, opposite}
+use Rattle.rules_masters.proofs.Placing.{place-holds, place-there, has-room, absent, opposite}
+use Rattle.rules_masters.proofs.Standings.{home-same, free-same, live-same, repeat-same}
 use Rattle.rules_masters.proofs.Times.{live-exactly}
 use Rattle.rules_masters.proofs.Keys.{known-exactly, known-inside, key-symmetric, key-transitive, Keyed, keyed-set}
 
 module _ (t : Table) (m : Announce) (interval now : ℕ) where
   -- its sender's live record was renewed
   pub record Renewal (place : ℕ) (u : Table) : Type 0 where
-    pub known : place ≡ home (t .records) m interval now
+    pub known : place ≡ placeOf (knownOf (m .header .source) now interval) (t .records)
     pub inside : place < 5
     pub fresh : getD (t .records) place freshRecord .announce .header .sequence ≡ m .header .sequence → ⊥
     pub after : u ≡ record { records = set (t .records) place (renewedOf (getD (t .records) place freshRecord) m now) }
 
   -- its sender had none, and took the first place that was not live
   pub record Entry (place : ℕ) (u : Table) : Type 0 where
-    pub unknown : 5 ≤ home (t .records) m interval now
+    pub unknown : 5 ≤ placeOf (knownOf (m .header .source) now interval) (t .records)
     pub free : place ≡ placeOf (absent now interval) (t .records)
     pub inside : place < 5
     pub after : u ≡ record { records = set (t .records) place (enteredOf m now) }
@@ -46,28 +49,31 @@ module _ (t : Table) (m : Announce) (interval now : ℕ) where
   Outcome (Renewed place) u = Renewal place u
   Outcome (Entered place) u = Entry place u
 
-  accepted : length (t .records) ≡ 5 → isRepeat (t .records) m interval now ≡ false → isFull (t .records) m interval now ≡ false
+  accepted : length (t .records) ≡ 5 → isRepeat (standingsIn (t .records) m interval now) ≡ false → isFull (standingsIn (t .records) m interval now) ≡ false
       → Outcome (acceptedOf (t .records) m interval now .answer) (acceptedOf (t .records) m interval now .table)
   unfolding acceptedOf isRepeat isFull
-  accepted five = by (isKnown (t .records) m interval now) refl
+  accepted five =
+      rw (home-same m interval now (t .records), free-same m interval now (t .records), live-same m interval now (t .records)) (by (ltb place 5) refl)
     where
       place : ℕ
-      place = home (t .records) m interval now
+      place = placeOf (knownOf (m .header .source) now interval) (t .records)
 
-      free : ℕ
-      free = placeOf (absent now interval) (t .records)
+      first : ℕ
+      first = placeOf (absent now interval) (t .records)
 
       renewed : Admitted
       renewed = record { answer = Renewed place; table = record { records = set (t .records) place (renewedOf (getD (t .records) place freshRecord) m now) } }
 
       entered : Admitted
-      entered = record { answer = Entered free; table = record { records = set (t .records) free (enteredOf m now) } }
+      entered = record { answer = Entered first; table = record { records = set (t .records) first (enteredOf m now) } }
 
-      by : (k : Bool) → isKnown (t .records) m interval now ≡ k
-          → (k && eqb (getD (t .records) place freshRecord .announce .header .sequence) (m .header .sequence)) ≡ false
+      by : (k : Bool) → ltb place 5 ≡ k
+          → (k && getD (map (λ (s : Standing). s .repeats) (standingsIn (t .records) m interval now)) place false) ≡ false
           → (not k && leb 5 (countOf (liveOf now interval) (t .records))) ≡ false
           → Outcome (cond k renewed entered .answer) (cond k renewed entered .table)
-      by true e f g = record { known = refl; inside = ltb-true _ _ e; fresh = eqb-false _ _ f; after = refl }
+      by true e f g =
+          let h = ltb-true place 5 e in
+          record { known = refl; inside = h; fresh = eqb-false _ _ (sym (repeat-same m interval now (t .records) place (rw five h)) ∙ f); after = refl }
       by false e f g =
           let n : countOf (liveOf now interval) (t .records) < length (t .records) = rw five (leb-false 5 (countOf (liveOf now interval) (t .records)) g) in
           let h = has-room (liveOf now interval) (absent now interval) (opposite now interval) (t .records) n in
@@ -82,7 +88,7 @@ outcome t m domain own a last now five = by (firstOf (groundsOf t m domain own a
     by : (v : Ruling) → firstOf (groundsOf t m domain own a last now) ≡ v
         → Outcome t m (intervalOf a) now (admittedBy v t (acceptedOf (t .records) m (intervalOf a) now) .answer)
         (admittedBy v t (acceptedOf (t .records) m (intervalOf a) now) .table)
-    by Clear e = let n = clear-announce _ _ _ _ _ _ _ e in accepted t m (intervalOf a) now five (n .1) (n .2)
+    by Clear e = let n = clear-announce _ _ _ _ _ (standingsIn (t .records) m (intervalOf a) now) e in accepted t m (intervalOf a) now five (n .1) (n .2)
     by (Barred r) e = refl
 
 -- the table has changed at this place, and nowhere else

@@ -1,6 +1,6 @@
--- What the choice chooses, and when it is NONE.
+-- What the choice chooses, when it is NONE, and when it wipes.
 use mathlib.Core.Path.{_≡_, refl}
-use mathlib.Core.Bool.{Bool, true, false}
+use mathlib.Core.Bool.{Bool, true, false, cond, not}
 use mathlib.Core.List.{List, [], _∷_}
 use mathlib.Core.Logic.{_↔_}
 use mathlib.Core.Option.{none, some}
@@ -8,6 +8,9 @@ use Prim.Native.Nat.{ℕ, _<_}
 use native.Mathlib.Omega.{arith}
 use lib.ListN.{getD}
 use Rattle.rules_masters.specs.declared.record.Record.{Record}
+use Rattle.rules_masters.specs.declared.chosen.Chosen.{Chosen}
+use Rattle.rules_masters.specs.declared.chosen.Decision.the-variants.{Same, Changed}
+use Rattle.rules_masters.specs.Holding.{sameMasterOf, decisionOf, masterOf, wipesOf}
 use Rattle.rules_masters.specs.Records.{intervalOf, qualifiedOf, freshRecord}
 use Rattle.rules_masters.specs.Places.{freshTable}
 use Rattle.rules_masters.specs.Comparison.{betterOf}
@@ -50,3 +53,11 @@ none-exactly t now a = (λ h. only (those q (inOrder t)) refl h, λ unmet. rw (n
 pub fresh-none : (now a : ℕ) → choiceOf (freshTable .records) now a ≡ none
 unfolding choiceOf choiceAmong those qualifiedOf
 fresh-none now a = refl
+
+-- THEOREM. A choice wipes exactly where its master is another than the one held (rule 10.1), and it names that master.
+pub another-wipes : (before after : Chosen) → (wipesOf (decisionOf before after) ≡ not (sameMasterOf before after)) × (masterOf (decisionOf before after) ≡ after)
+another-wipes before after = by (sameMasterOf before after)
+  where
+    by : (b : Bool) → (wipesOf (cond b (Same after) (Changed after)) ≡ not b) × (masterOf (cond b (Same after) (Changed after)) ≡ after)
+    by true = (refl, refl)
+    by false = (refl, refl)

@@ -7,10 +7,10 @@ pub mod Examples
 pub mod Placing
 pub mod Keys
 pub mod Barring
+pub mod Order
+pub mod Standings
 pub mod Seating
 pub mod Admissions
 pub mod Keeping
-pub mod Order
 pub mod Choices
-pub mod Standings
 pub mod Candidates

@@ -9,7 +9,7 @@ use lib.ListN.{length, getD}
 use borrow.Author.Tests.{ltb-true, ltb-false}
 use Rattle.rules_masters.specs.declared.record.Record.{Record}
 use Rattle.rules_masters.specs.Records.{liveOf}
-use Rattle.rules_masters.specs.Places.{placeOf, countOf, absent}
+use Rattle.rules_masters.specs.Places.{placeOf, countOf}
 
 module _ {A : Type 0} (p : A → Bool) where
   pub place-holds : (l : List A) (d : A) → placeOf p l < length l → p (getD l (placeOf p l) d) ≡ true
@@ -78,7 +78,10 @@ module _ {A : Type 0} (p q : A → Bool) (opposite : (x : A) → q x ≡ not (p 
       by true e = ltb-true _ _ e
       by false e = absurd (let k = no-room l (ltb-false _ _ e) in omega arith)
 
--- absent is the opposite of live
+-- a record that is not live is as good as none
+unfoldable pub absent : ℕ → ℕ → Record → Bool
+absent now interval r = not (liveOf now interval r)
+
 pub opposite : (now interval : ℕ) (r : Record) → absent now interval r ≡ not (liveOf now interval r)
 unfolding absent
 opposite now interval r = refl

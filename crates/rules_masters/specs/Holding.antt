@@ -35,3 +35,16 @@ sameMasterOf a b = cond (a .some) (isMaster b (a .sender)) (not (b .some))
 -- what the choice says: the master as before, or still none; or a new or lost one
 abbrev pub decisionOf : Chosen → Chosen → Decision
 decisionOf before after = cond (sameMasterOf before after) (Same after) (Changed after)
+
+-- of what it says: the master; whether it wipes (rule 10.1); its code at the door
+abbrev pub masterOf : Decision → Chosen
+masterOf (Same c) = c
+masterOf (Changed c) = c
+
+abbrev pub wipesOf : Decision → Bool
+wipesOf (Same c) = false
+wipesOf (Changed c) = true
+
+abbrev pub codeOf : Decision → ℕ
+codeOf (Same c) = 1
+codeOf (Changed c) = 2

@@ -1,15 +1,15 @@
 -- What only inner contracts cite: nobody needs to believe it. proofs/Standings.antt and proofs/Candidates.antt bring it back to what is believed.
 use Prim.Native.Nat.{ℕ}
-use mathlib.Core.Bool.{Bool, true, false, cond, not}
-use mathlib.Core.List.{List, [], _∷_, map}
+use mathlib.Core.Bool.{Bool, true, false, cond}
+use mathlib.Core.List.{List, [], _∷_}
 use mathlib.Core.Option.{Option, none, some}
 use lib.Dec.{ltb, eqb}
 use lib.ListN.{getD, set}
-use Rattle.numbers.specs.declared.refusal.Refusal.the-variants.{Repeat, Full}
+use Rattle.numbers.specs.declared.refusal.Refusal.{Refusal}
 use Rattle.numbers.specs.declared.ruling.Ruling.{Ruling}
-use Rattle.numbers.specs.Refusals.{numberOf}
-use Rattle.numbers.specs.Grounds.{firstOf, noneDue, dueWith}
-use Rattle.numbers.specs.Orders.{ofAnnounce}
+use Rattle.numbers.specs.declared.ruling.Ruling.the-variants.{Clear, Barred}
+use Rattle.numbers.specs.Grounds.{firstOf}
+use Rattle.numbers.specs.Orders.{noneDue, ofAnnounce}
 use Rattle.wire_layout.specs.declared.message.Port.{Port}
 use Rattle.rules_masters.specs.declared.record.Announce.{Announce}
 use Rattle.rules_masters.specs.declared.record.Record.{Record}
@@ -19,47 +19,42 @@ use Rattle.rules_masters.specs.declared.standing.Seat.{Seat}
 use Rattle.rules_masters.specs.declared.candidate.Candidate.{Candidate}
 use Rattle.rules_masters.specs.declared.chosen.Chosen.{Chosen}
 use Rattle.rules_masters.specs.declared.admission.Admitted.{Admitted}
-use Rattle.rules_masters.specs.declared.admission.Answer.the-variants.{Refused, Renewed, Entered}
-use Rattle.rules_masters.specs.Records.{liveOf, knownOf, qualifiedOf, freshRecord, enteredOf, renewedOf}
-use Rattle.rules_masters.specs.Places.{placeOf}
+use Rattle.rules_masters.specs.declared.admission.Answer.the-variants.{Renewed, Entered}
+use Rattle.rules_masters.specs.Records.{qualifiedOf, freshRecord, enteredOf, renewedOf}
 use Rattle.rules_masters.specs.Comparison.{smaller}
 use Rattle.rules_masters.specs.Choosing.{those, choiceAmong}
 use Rattle.rules_masters.specs.Holding.{freshChosen}
-use Rattle.rules_masters.specs.Admitting.{groundsWith, isRepeat, isFull, acceptedOf, admittedBy}
+use Rattle.rules_masters.specs.Admitting.{groundsWith, standingOf, home, isKnown, free, tableDue, standingsIn, acceptedOf, admittedBy}
 
--- ---- the admission: of the seven refusals of an Announce the five that need no table, ..
+-- ---- the admission: the refusals of an Announce that need no table, ..
 abbrev pub barredOf : Announce → ℕ → Port → ℕ → ℕ → Ruling
-barredOf m domain own last now = firstOf (groundsWith m domain own last now false false)
+barredOf m domain own last now = firstOf (groundsWith m domain own last now noneDue)
 
--- .. and the two that look into it, where those five are not due
+-- .. and those that look into it, where none of these is due
 unfoldable pub seatedOf : Table → Announce → ℕ → ℕ → Admitted
 seatedOf t m interval now =
-    admittedBy
-    (firstOf (ofAnnounce (dueWith Repeat (isRepeat (t .records) m interval now) (dueWith Full (isFull (t .records) m interval now) noneDue))))
-    t
-    (acceptedOf (t .records) m interval now)
-
--- what an Announce of this sender with this sequenceId asks of one record
-unfoldable pub standingOf : (sender : Port) (sequence now interval : ℕ) → Record → Standing
-standingOf sender sequence now interval r =
-    record { live = liveOf now interval r; known = knownOf sender now interval r; repeats = eqb (r .announce .header .sequence) sequence }
+    admittedBy (firstOf (ofAnnounce (tableDue (standingsIn (t .records) m interval now)))) t (acceptedOf (t .records) m interval now)
 
 -- the sender has a live record, and it is at this place, ..
-abbrev pub ownSeat : ℕ → Bool → Seat
-ownSeat place repeats = record { barred = repeats; number = cond repeats (numberOf Repeat) 0; at = place; known = true }
+abbrev pub ownSeat : ℕ → Ruling → Seat
+ownSeat place ruling = record { ruling = ruling; at = place; known = true }
 
 -- .. or it has none, and takes this one, ..
 abbrev pub newSeat : ℕ → Seat
-newSeat place = record { barred = false; number = 0; at = place; known = false }
+newSeat place = record { ruling = Clear; at = place; known = false }
 
--- .. if it is one of the five
-abbrev pub freeSeat : ℕ → Seat
-freeSeat place = cond (ltb place 5) (newSeat place) (record { barred = true; number = numberOf Full; at = 0; known = false })
+-- .. if it is one of the five; else it is refused
+abbrev pub freeSeat : Refusal → ℕ → Seat
+freeSeat refusal place = cond (ltb place 5) (newSeat place) (record { ruling = Barred refusal; at = 0; known = false })
 
+-- what five standings come to
 abbrev pub seatAmong : List Standing → Seat
 seatAmong l =
-    let home = placeOf (λ (s : Standing). s .known) l in
-    cond (ltb home 5) (ownSeat home (getD (map (λ (s : Standing). s .repeats) l) home false)) (freeSeat (placeOf (λ (s : Standing). not (s .live)) l))
+    record {
+      ruling = firstOf (ofAnnounce (tableDue l));
+      at = cond (isKnown l) (home l) (cond (ltb (free l) 5) (free l) 0);
+      known = isKnown l;
+    }
 
 unfoldable pub seatOf : (a b c d e : Standing) → Seat
 seatOf a b c d e = seatAmong (a ∷ b ∷ c ∷ d ∷ e ∷ [])
@@ -73,8 +68,7 @@ seatIn t sender sequence now interval =
 -- what a seat makes of the table
 abbrev pub settledOf : Seat → Table → Announce → ℕ → Admitted
 settledOf s t m now =
-    cond (s .barred)
-    (record { answer = Refused (cond (s .known) Repeat Full); table = t })
+    admittedBy (s .ruling) t
     (cond (s .known)
     (record { answer = Renewed (s .at); table = record { records = set (t .records) (s .at) (renewedOf (getD (t .records) (s .at) freshRecord) m now) } })
     (record { answer = Entered (s .at); table = record { records = set (t .records) (s .at) (enteredOf m now) } }))

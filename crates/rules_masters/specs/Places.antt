@@ -1,11 +1,10 @@
--- Places of the table (rules 5.1, 5.5 and 5.6).
+-- Places of the table (rules 5.1 and 5.6).
 use Prim.Native.Nat.{ℕ, suc}
-use mathlib.Core.Bool.{Bool, cond, not}
+use mathlib.Core.Bool.{Bool, cond}
 use mathlib.Core.List.{List, [], _∷_}
 use lib.ListN.{replicate}
-use Rattle.rules_masters.specs.declared.record.Record.{Record}
 use Rattle.rules_masters.specs.declared.table.Table.{Table}
-use Rattle.rules_masters.specs.Records.{liveOf, freshRecord}
+use Rattle.rules_masters.specs.Records.{freshRecord}
 
 module _ {A : Type 0} (p : A → Bool) where
   -- the first place at which p holds, counted from 0; the length of the list where there is none
@@ -17,10 +16,6 @@ module _ {A : Type 0} (p : A → Bool) where
   unfoldable pub countOf : List A → ℕ
   countOf [] = 0
   countOf (x ∷ l) = cond (p x) (suc (countOf l)) (countOf l)
-
--- a record that is not live is as good as none
-unfoldable pub absent : ℕ → ℕ → Record → Bool
-absent now interval r = not (liveOf now interval r)
 
 -- what a fresh unit is lent
 abbrev pub freshTable : Table

@@ -79,26 +79,27 @@ fn settle(mut table: Table, announce: Announce, interval: u32, now: u64) -> Admi
     let sender = announce.header.source;
     let seat = seat_in(table, sender, announce.header.sequence, now, interval);
     let at = seat.at;
-    if seat.barred {
-        let answer = if seat.known {
-            Answer::Refused(Refusal::Repeat)
-        } else {
-            Answer::Refused(Refusal::Full)
-        };
-        return Admitted { answer, table };
-    }
-    if seat.known {
-        let record = table.records[at];
-        table.records[at] = record.renewed(announce, now);
-        return Admitted {
-            answer: Answer::Renewed(at),
+    let ruling = seat.ruling;
+    match ruling {
+        Ruling::Barred(refusal) => Admitted {
+            answer: Answer::Refused(refusal),
             table,
-        };
-    }
-    table.records[at] = Record::entered(announce, now);
-    Admitted {
-        answer: Answer::Entered(at),
-        table,
+        },
+        Ruling::Clear => {
+            if seat.known {
+                let record = table.records[at];
+                table.records[at] = record.renewed(announce, now);
+                return Admitted {
+                    answer: Answer::Renewed(at),
+                    table,
+                };
+            }
+            table.records[at] = Record::entered(announce, now);
+            Admitted {
+                answer: Answer::Entered(at),
+                table,
+            }
+        }
     }
 }
 

@@ -1,6 +1,6 @@
 // The master chosen, as it is held between choices.
 ghost use mathlib.Core.Path.{_≡_};
-ghost use Rattle.rules_masters.specs.Holding.{freshChosen, sameMasterOf, isMaster, decisionOf};
+ghost use Rattle.rules_masters.specs.Holding.{freshChosen, sameMasterOf, isMaster, decisionOf, masterOf, wipesOf, codeOf};
 use crate::record::same_key;
 use wire_layout::message::Port;
 
@@ -15,6 +15,36 @@ pub struct Chosen {
 pub enum Decision {
     Same(Chosen),
     Changed(Chosen),
+}
+
+impl Decision {
+    pub fn master(self) -> Chosen
+        ensures { λ r. ⌜ r ≡ masterOf self ⌝ }
+    {
+        match self {
+            Decision::Same(chosen) => chosen,
+            Decision::Changed(chosen) => chosen,
+        }
+    }
+
+    pub fn wipes(self) -> bool
+        ensures { λ r. ⌜ r ≡ wipesOf self ⌝ }
+    {
+        match self {
+            Decision::Same(_) => false,
+            Decision::Changed(_) => true,
+        }
+    }
+
+    // Its code at the door.
+    pub fn code(self) -> u8
+        ensures { λ r. ⌜ r ≡ codeOf self ⌝ }
+    {
+        match self {
+            Decision::Same(_) => 1,
+            Decision::Changed(_) => 2,
+        }
+    }
 }
 
 impl Chosen {

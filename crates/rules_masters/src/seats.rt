@@ -1,21 +1,27 @@
 // The place that five standings give an Announce, or the refusal.
 ghost use mathlib.Core.Path.{_≡_};
-ghost use mathlib.Core.Bool.{not};
+ghost use mathlib.Core.Bool.{cond, not};
 ghost use mathlib.Core.List.{[], _∷_};
 ghost use Rattle.rules_masters.specs.Places.{placeOf};
 ghost use Rattle.rules_masters.specs.Inner.{ownSeat, newSeat, freeSeat, seatOf};
 use crate::standing::Seat;
 use crate::standing::Standing;
 use numbers::refusal::Refusal;
+use numbers::ruling::Ruling;
 
 // The sender's live record is at this place.
-fn own(at: usize, repeats: bool) -> Seat
-    ensures { λ r. ⌜ r ≡ ownSeat at repeats ⌝ }
+fn own(at: usize, s: Standing) -> Seat
+    ensures { λ r. ⌜ r ≡ ownSeat at (cond (s .repeats) (Ruling.Barred Refusal.Repeat) Ruling.Clear) ⌝ }
 {
-    let number = if repeats { Refusal::Repeat.number() } else { 0 };
+    if s.repeats {
+        return Seat {
+            ruling: Ruling::Barred(Refusal::Repeat),
+            at,
+            known: true,
+        };
+    }
     Seat {
-        barred: repeats,
-        number,
+        ruling: Ruling::Clear,
         at,
         known: true,
     }
@@ -26,8 +32,7 @@ fn taken(at: usize) -> Seat
     ensures { λ r. ⌜ r ≡ newSeat at ⌝ }
 {
     Seat {
-        barred: false,
-        number: 0,
+        ruling: Ruling::Clear,
         at,
         known: false,
     }
@@ -35,7 +40,7 @@ fn taken(at: usize) -> Seat
 
 // Each is whether a place is live: a new sender takes the first that is not.
 fn free(a: bool, b: bool, c: bool, d: bool, e: bool) -> Seat
-    ensures { λ r. ⌜ r ≡ freeSeat (placeOf not (a ∷ b ∷ c ∷ d ∷ e ∷ [])) ⌝ }
+    ensures { λ r. ⌜ r ≡ freeSeat Refusal.Full (placeOf not (a ∷ b ∷ c ∷ d ∷ e ∷ [])) ⌝ }
 {
     if !a {
         return taken(0);
@@ -53,8 +58,7 @@ fn free(a: bool, b: bool, c: bool, d: bool, e: bool) -> Seat
         return taken(4);
     }
     Seat {
-        barred: true,
-        number: Refusal::Full.number(),
+        ruling: Ruling::Barred(Refusal::Full),
         at: 0,
         known: false,
     }
@@ -65,19 +69,19 @@ pub fn seat(a: Standing, b: Standing, c: Standing, d: Standing, e: Standing) -> 
     ensures { λ r. ⌜ r ≡ seatOf a b c d e ⌝ }
 {
     if a.known {
-        return own(0, a.repeats);
+        return own(0, a);
     }
     if b.known {
-        return own(1, b.repeats);
+        return own(1, b);
     }
     if c.known {
-        return own(2, c.repeats);
+        return own(2, c);
     }
     if d.known {
-        return own(3, d.repeats);
+        return own(3, d);
     }
     if e.known {
-        return own(4, e.repeats);
+        return own(4, e);
     }
     free(a.live, b.live, c.live, d.live, e.live)
 }

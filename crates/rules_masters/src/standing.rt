@@ -1,8 +1,9 @@
 // What an Announce asks of one record, and what five of these answer it.
 ghost use mathlib.Core.Path.{_≡_};
-ghost use Rattle.rules_masters.specs.Inner.{standingOf};
+ghost use Rattle.rules_masters.specs.Admitting.{standingOf};
 use crate::record::Record;
 use crate::record::same_key;
+use numbers::ruling::Ruling;
 use wire_layout::message::Port;
 
 // Of one record, to an Announce of this sender with this sequenceId.
@@ -12,12 +13,11 @@ pub struct Standing {
     pub repeats: bool, // its last Announce has this sequenceId
 }
 
-// The place for an Announce; or, where it is barred, the number of its refusal.
+// The place for an Announce, where its ruling is clear.
 pub struct Seat {
-    pub barred: bool,
-    pub number: u8, // of REPEAT or FULL; else 0
+    pub ruling: Ruling,
     pub at: usize, // 0 to 4 in any case
-    pub known: bool, // the place is the sender's own; where barred: REPEAT, and not FULL
+    pub known: bool, // the sender has a live record, at this place
 }
 
 impl Record {

@@ -7,7 +7,7 @@ use Rattle.numbers.specs.Integers.{up}
 use Rattle.numbers.specs.declared.refusal.Refusal.the-variants.{Settings as Outside}
 use Rattle.numbers.specs.Grounds.{firstOf}
 use Rattle.numbers.specs.Orders.{ofMaking}
-use Rattle.rules_watch.specs.Settings.{sizeOf, leastOf}
+use Rattle.rules_watch.specs.Settings.{sizeOf, leastOf, waitOf}
 use Rattle.rules_settings.specs.declared.Settings.{Settings}
 use Rattle.rules_settings.specs.declared.Given.{Given}
 use Rattle.rules_settings.specs.declared.Set.the-variants.{Accepted, Refused}
@@ -34,16 +34,15 @@ module _ (g : Given) (s : Settings) (e : settingsOf g ≡ Accepted s) where
           subst Ranges q (in-ranges g (h .0) (h .1))
       go false p f = let z : _≡_ {A = ℕ} 0 1 = cc in absurd (omega arith)
 
-  -- the window and the minimum of the watch
+  -- window, minimum and holdoff of the watch
   pub accepted-size : sizeOf (s .watch) ≡ s .watch .window
   accepted-size = let r = accepted-ranges in omega (arith, r .window-from, r .window-to)
 
   pub accepted-least : leastOf (s .watch) ≡ s .watch .minimum
   accepted-least = let r = accepted-ranges in omega (arith, r .minimum-from)
 
-  -- the watch can count to the holdoff
-  pub accepted-holdoff : s .watch .holdoff ≤ 10
-  accepted-holdoff = accepted-ranges .holdoff-to
+  pub accepted-wait : waitOf (s .watch) ≡ s .watch .holdoff
+  accepted-wait = let r = accepted-ranges in omega (arith, r .holdoff-to)
 
   -- the servo's limit in ppb: rules_servo's limitOf has this `min`
   pub accepted-limit : min 100_000 (up (s .limit .0)) ≡ up (s .limit .0)

@@ -2,18 +2,16 @@
 use mathlib.Core.Path.{_≡_, refl, sym, subst, _∙_}
 use mathlib.Core.Bool.{Bool, true, false, cond, _&&_}
 use mathlib.Core.List.{List, [], _∷_}
-use Prim.Native.Nat.{ℕ, suc, _+_, _*_, _<_, _≤_}
+use Prim.Native.Nat.{ℕ, suc, _+_, _≤_}
 use native.Mathlib.Omega.{arith}
 use native.Mathlib.Numerals.{add-one}
 use borrow.Author.Tests.{leb-true}
 use lib.Dec.{leb}
 use Rattle.numbers.specs.declared.refusal.Refusal.the-variants.{NotReady}
-use lib.IntN.{ℤ, pos, _*ℤ_}
+use lib.IntN.{pos, _*ℤ_}
 use lib.ListN.{length, length-drop}
-use lib.Signed.{_<ℤ_}
-use Rattle.rules_fit.specs.Points.{over, level, slope, sq, cost}
-use Rattle.rules_fit.specs.Nearest.{Nearest}
-use Rattle.rules_fit.proofs.Least.{count-is, over-above, least}
+use Rattle.rules_fit.specs.Points.{over, slope}
+use Rattle.rules_fit.proofs.Least.{count-is, over-above, least-apart}
 use Rattle.rules_fit.proofs.Quotient.{rounded-nearest}
 use Rattle.rules_watch.specs.declared.settings.WatchSettings.{WatchSettings}
 use Rattle.rules_watch.specs.declared.window.Sample.{Sample}
@@ -21,9 +19,10 @@ use Rattle.rules_watch.specs.declared.totals.Totals.{Totals}
 use Rattle.rules_watch.specs.declared.totals.Line.{Line}
 use Rattle.rules_watch.specs.declared.Drift.the-variants as drifts
 use Rattle.rules_watch.specs.declared.Watch.{Watch}
-use Rattle.rules_watch.specs.Settings.{sizeOf, leastOf}
+use Rattle.rules_watch.specs.Settings.{sizeOf, leastOf, waitOf}
 use Rattle.rules_watch.specs.Window.{lastN}
 use Rattle.rules_watch.specs.Totals.{pointsOf, lineThrough}
+use Rattle.rules_watch.specs.Lines.{Right}
 use Rattle.rules_watch.specs.Inner.{noTotals, withSample, Over, totalsOf}
 use Rattle.rules_watch.specs.Rules.{Since, windowOf, lineIfDue}
 use Rattle.rules_watch.specs.Watch.{watchLine}
@@ -32,17 +31,6 @@ use Rattle.rules_watch.proofs.Sums.{sumFrom, sum-all}
 use Rattle.rules_watch.proofs.Points.{two}
 use Rattle.rules_watch.proofs.Outcomes.{line-is}
 use Rattle.rules_watch.proofs.Story.{Small, more, small-last, Good}
-
--- q is the line of a window
-pub record Right (window : List Sample) (q : Line) : Type 0 where
-  -- n counts the valid samples
-  pub counted : q .n ≡ pos (length (pointsOf window))
-  pub above : pos 0 <ℤ q .over
-  -- any other line, of level p / d and slope r / d in ns, has a larger sum of squared differences at these samples
-  pub nearer : (d p r : ℤ) → ¬ ((q .over *ℤ p ≡ d *ℤ q .level) × (q .over *ℤ r ≡ d *ℤ q .slope))
-      → sq d * cost (q .over) (q .level) (q .slope) (pointsOf window) < cost d p r (pointsOf window) * sq (q .over)
-  -- the slope in ppm is slope / (1,000 · over), and no f64 is nearer to it
-  pub nearest : Nearest (q .slope) (pos 1000 *ℤ q .over) (q .ppm)
 
 -- ---- every window's totals lie within their bounds
 sum-over : (k : ℕ) (u : Totals) (l : List Sample) → Over k u → Small l → k + length l ≤ 128 → Over 128 (sumFrom k u l)
@@ -62,13 +50,13 @@ through-right l m h e =
     record {
       counted = count-is (pointsOf l);
       above = a;
-      nearer = least (pointsOf l) w;
+      nearer = least-apart (pointsOf l) w;
       nearest = rounded-nearest (slope (pointsOf l)) (pos 1000 *ℤ over (pointsOf l)) (slope-below (totalsOf (pointsOf l)) (window-over l m h)) (thousand-above (over (pointsOf l)) a);
     }
 
 -- whenever a line is given it is right
 pub line-right : (t : WatchSettings) (taken : ℕ) (window : List Sample) → Small window → length window ≤ 128 → (q : Line) → lineIfDue t taken window ≡ drifts.Line q → Right window q
-line-right t taken window m h q e = go (leb (t .holdoff) taken) (leb (leastOf t) (length (pointsOf window))) refl (sym (line-is t taken window) ∙ e)
+line-right t taken window m h q e = go (leb (waitOf t) taken) (leb (leastOf t) (length (pointsOf window))) refl (sym (line-is t taken window) ∙ e)
   where
     go : (a b : Bool) → leb (leastOf t) (length (pointsOf window)) ≡ b → cond (a && b) (drifts.Line (lineThrough (pointsOf window))) (drifts.Refused NotReady) ≡ drifts.Line q → Right window q
     go true true p e =

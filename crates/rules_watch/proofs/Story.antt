@@ -17,7 +17,7 @@ use Rattle.rules_watch.specs.declared.Watch.{Watch}
 use Rattle.rules_watch.specs.declared.Pulse.the-variants.{Back, Range, Jump}
 use Rattle.rules_watch.specs.declared.judging.Outcome.{Outcome}
 use Rattle.rules_watch.specs.declared.judging.Outcome.the-variants.{Refuse, Wipe, Take}
-use Rattle.rules_watch.specs.Settings.{sizeOf}
+use Rattle.rules_watch.specs.Settings.{sizeOf, waitOf}
 use Rattle.rules_watch.specs.Window.{lastN}
 use Rattle.rules_watch.specs.Rules.{Since, freshSince, pulseOf, wipesOf, apart, outsideOf, sampleAfter, settled, followed, onLast, inside, outcome, sinceBy, Stamps, sinceAfter, windowOf, lineSince}
 use Rattle.rules_watch.specs.Watch.{samplesIn, freshWatch, sampleTaken, takenBy, sinceOf, takenOf, nextWatch, watchAfter, watchLine}
@@ -138,8 +138,8 @@ pub good-played : {t : WatchSettings} {h : Since} {w : Watch} → Good t h w →
 good-played g [] = g
 good-played g (p ∷ l) = good-played (good-keeps g (p .reference) (p .clock)) l
 
-pub good-line : {t : WatchSettings} {h : Since} {w : Watch} → Good t h w → t .holdoff ≤ 10 → watchLine t w ≡ lineSince t h
-good-line {t} {h} {w} g k = rw (g .holds, g .counts, reach (t .holdoff) (length (h .samples)) k)
+pub good-line : {t : WatchSettings} {h : Since} {w : Watch} → Good t h w → watchLine t w ≡ lineSince t h
+good-line {t} {h} {w} g = rw (g .holds, g .counts, reach (waitOf t) (length (h .samples)) (omega arith))
   where
     reach : (d n : ℕ) → d ≤ 10 → leb d (min n 10) ≡ leb d n
     reach d n k = go (decLe d n)

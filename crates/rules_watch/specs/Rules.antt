@@ -19,7 +19,7 @@ use Rattle.rules_watch.specs.declared.judging.Outcome.{Outcome}
 use Rattle.rules_watch.specs.declared.judging.Outcome.the-variants.{Refuse, Wipe, Take}
 use Rattle.rules_watch.specs.declared.Drift.{Drift}
 use Rattle.rules_watch.specs.declared.Drift.the-variants.{Line, Refused}
-use Rattle.rules_watch.specs.Settings.{sizeOf, leastOf}
+use Rattle.rules_watch.specs.Settings.{sizeOf, leastOf, waitOf}
 use Rattle.rules_watch.specs.Window.{lastN}
 use Rattle.rules_watch.specs.Totals.{pointsOf, lineThrough}
 
@@ -122,7 +122,7 @@ windowOf t l = lastN (sizeOf t) l
 
 -- when a line is due (rule 9.13)
 abbrev pub due : WatchSettings → ℕ → List Sample → Bool
-due t taken window = leb (t .holdoff) taken && leb (leastOf t) (length (pointsOf window))
+due t taken window = leb (waitOf t) taken && leb (leastOf t) (length (pointsOf window))
 
 abbrev pub lineUnlessBarred : Ruling → lines.Line → Drift
 lineUnlessBarred (Barred r) q = Refused r

@@ -177,7 +177,7 @@ pub fn line(
         × (now (ys .exit) ≡ now (ys .entry))
         × (now (marks .exit) ≡ now (marks .entry)) ⌝ }
 {
-    if head.taken < (settings.holdoff as u16) {
+    if head.taken < (settings.wait() as u16) {
         return Drift::Refused(Refusal::NotReady);
     }
     let totals = columns::totals(head, ys, marks);
@@ -205,11 +205,15 @@ impl Watch {
     pub fn fresh() -> Watch
         ensures { λ r. ⌜ r ≡ freshWatch ⌝ }
     {
+        let mut references = [0i64; 128];
+        let mut ys = [0i32; 128];
+        let mut marks = [0u8; 128];
+        let head = empty(&mut references, &mut ys, &mut marks);
         Watch {
-            head: Head::fresh(),
-            references: [0; 128],
-            ys: [0; 128],
-            marks: [0; 128],
+            head,
+            references,
+            ys,
+            marks,
         }
     }
 

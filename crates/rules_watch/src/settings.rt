@@ -3,7 +3,7 @@ ghost use mathlib.Core.Path.{_≡_};
 ghost use mathlib.Core.Bool.{_&&_};
 ghost use Prim.Native.Nat.{min, max};
 ghost use lib.Dec.{leb};
-ghost use Rattle.rules_watch.specs.Settings.{sizeOf, leastOf};
+ghost use Rattle.rules_watch.specs.Settings.{sizeOf, leastOf, waitOf};
 
 #[repr(C)]
 pub struct WatchSettings {
@@ -35,6 +35,13 @@ impl WatchSettings {
         ensures { λ r. ⌜ r ≡ leastOf self ⌝ }
     {
         if self.minimum < 2 { 2 } else { self.minimum }
+    }
+
+    // The holdoff. The watch counts to 10, the widest that is accepted, and no further.
+    pub(crate) fn wait(self) -> u8
+        ensures { λ r. ⌜ r ≡ waitOf self ⌝ }
+    {
+        if 10 < self.holdoff { 10 } else { self.holdoff }
     }
 
     // Valid: y moved by the spike at most, and the reference interval is off a second by the tolerance at most.

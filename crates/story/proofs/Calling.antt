@@ -11,8 +11,8 @@ use Rattle.numbers.specs.declared.stamp.Stamp.{Stamp}
 use Rattle.numbers.specs.declared.refusal.Refusal.the-variants.{Now}
 use Rattle.numbers.specs.declared.ruling.Ruling.{Ruling}
 use Rattle.numbers.specs.declared.ruling.Ruling.the-variants.{Clear, Barred}
-use Rattle.numbers.specs.Grounds.{Ground, Due, firstOf}
-use Rattle.numbers.specs.Orders.{ofExchange}
+use Rattle.numbers.specs.Grounds.{Ground, firstOf}
+use Rattle.numbers.specs.Orders.{Due, ofExchange}
 use Rattle.numbers.proofs.Grounds.{clear-cons}
 use Rattle.wire_layout.specs.declared.message.Port.{Port}
 use Rattle.wire_layout.specs.declared.message.Header.{Header}
@@ -31,7 +31,7 @@ use Rattle.unit_core.specs.declared.calls.Answer.{Answer}
 use Rattle.unit_core.specs.declared.calls.Answer.the-variants as answers
 use Rattle.unit_core.specs.Effects.{Stays, Effect, wipes, unless, withNow, unlocked}
 use Rattle.unit_measuring.specs.Measuring.{bySaid}
-use Rattle.unit_measuring.specs.Barring.{messageDue, ownDue}
+use Rattle.unit_measuring.specs.Barring.{fieldIn, messageDue, ownDue}
 use Rattle.unit_measuring.specs.Hearing.{twoStepIn, hearsEvent, hears}
 use Rattle.unit_measuring.specs.Asking.{requestDue, requestGrounds, withNextSequence, requests, sends}
 use Rattle.unit_measuring.proofs.Barring.{unless-told}
@@ -109,15 +109,15 @@ module _ (s : Settings) (b : Book) (p : Past) (h : Tells s b p) where
 
     pub hears-sync : (t1 : Stamp) → Hears (bodies.Sync t1)
     unfolding hears
-    hears-sync t1 = from-master (bodies.Sync t1) (sync (twoStepIn hd) (hd .sequence) (hd .correction) t1 t2) (fieldOf t2) (λ u said i. rw i) refl
+    hears-sync t1 = from-master (bodies.Sync t1) (sync (twoStepIn hd) (hd .sequence) (hd .correction) t1 t2) (fieldIn t2 (bodies.Sync t1)) (λ u said i. rw i) refl
 
     pub hears-follow : (t1 : Stamp) → Hears (bodies.FollowUp t1)
     unfolding hears
-    hears-follow t1 = from-master (bodies.FollowUp t1) (followUp (hd .sequence) (hd .correction) t1) false (λ u said i. rw i) refl
+    hears-follow t1 = from-master (bodies.FollowUp t1) (followUp (hd .sequence) (hd .correction) t1) (fieldIn t2 (bodies.FollowUp t1)) (λ u said i. rw i) refl
 
     pub hears-resp : (t4 : Stamp) (r : Port) → Hears (bodies.DelayResp t4 r)
     unfolding hears
-    hears-resp t4 r = from-master (bodies.DelayResp t4 r) (delayResp (hd .sequence) (hd .correction) t4 r (s .own)) false (λ u said i. rw i) refl
+    hears-resp t4 r = from-master (bodies.DelayResp t4 r) (delayResp (hd .sequence) (hd .correction) t4 r (s .own)) (fieldIn t2 (bodies.DelayResp t4 r)) (λ u said i. rw i) refl
 
     pub hears-req : (t : Stamp) → Hears (bodies.DelayReq t)
     unfolding hears

@@ -12,8 +12,8 @@ use lib.Signed.{leZ}
 use Rattle.numbers.specs.declared.refusal.Refusal.the-variants.{Now, Tick}
 use Rattle.numbers.specs.declared.units.Ppb.{Ppb}
 use Rattle.numbers.specs.declared.stamp.Stamp.{Stamp}
-use Rattle.numbers.specs.Grounds.{firstOf, noneDue, dueWith}
-use Rattle.numbers.specs.Orders.{ofTime}
+use Rattle.numbers.specs.Grounds.{firstOf}
+use Rattle.numbers.specs.Orders.{noneDue, dueWith, ofTime}
 use Rattle.wire_layout.specs.declared.message.Header.{Header}
 use Rattle.wire_layout.specs.declared.message.Offer.{Offer}
 use Rattle.wire_layout.specs.declared.message.Body.the-variants as bodies
@@ -44,7 +44,7 @@ use Rattle.unit_core.specs.declared.calls.Answer.{Answer}
 use Rattle.unit_core.specs.declared.calls.Answer.the-variants as answers
 use Rattle.unit_core.specs.Effects.{Stays, keeps, goes, takes, wipes, unless}
 use Rattle.unit_core.specs.Showing.{portOf, showsOf}
-use Rattle.unit_choosing.specs.Choosing.{timeDue, admission as admitting, withChosen, holds, timePasses, chooses as choosesAnew, admits, announces as announcing}
+use Rattle.unit_choosing.specs.Choosing.{timeDue, admission as admitting, withChosen, holdsBy, holds, timePasses, chooses as choosesAnew, admits, announces as announcing}
 use Rattle.unit_ticking.specs.Ticking.{ticks, lineBy}
 use Rattle.unit.specs.Machine.{Past, pastBy}
 use Rattle.story_masters.specs.Announces.{Log as SeatLog, came, lastNow as lastSeen}
@@ -136,7 +136,7 @@ module _ (s : Settings) (b : Book) (p : Past) (h : Tells s b p) where
         stay : (u : Answer) → withChosen K now c ≡ record { now = now; chosen = c; faulty = faulty b; sequence = sequence b }
         stay u = ap (λ (k : Stays). withChosen k now c) (h .stays)
 
-        go : (i : Bool) → Agrees s b p call t (answers.Choice (cond i (Same c) (Changed c))) (cond i (goes (answers.Choice (Same c)) (withChosen K now c) (p .progress)) (wipes (answers.Choice (Changed c)) (withChosen K now c)))
+        go : (i : Bool) → Agrees s b p call t (answers.Choice (cond i (Same c) (Changed c))) (holdsBy K (p .progress) now c (cond i (Same c) (Changed c)))
         go true =
             let u = answers.Choice (Same c) in
             record {
@@ -196,7 +196,7 @@ module _ (s : Settings) (b : Book) (p : Past) (h : Tells s b p) where
   pub time-told : (now : ℕ) → Agrees s b p (calls.Time now) (p .table) (answer s b (calls.Time now)) (timePasses s K (p .progress) (p .table) now)
   unfolding answer timePasses choosesAnew all firstOf
   time-told now =
-      subst (λ (k : Stays). Agrees s b p (calls.Time now) (p .table) (unlessBarred (firstOf (ofTime (timeDue k now))) (choiceAnswer s b now (seats s b))) (timePasses s K (p .progress) (p .table) now)) (h .stays)
+      subst (λ (k : Stays). Agrees s b p (calls.Time now) (p .table) (unlessBarred (firstOf (ofTime (timeDue (k .now) now))) (choiceAnswer s b now (seats s b))) (timePasses s K (p .progress) (p .table) now)) (h .stays)
       (go (ltb now (K .now)) refl)
     where
       go : (i : Bool) → ltb now (K .now) ≡ i

@@ -1,36 +1,26 @@
 -- Whatever calls a fresh unit got, its next answer is the one that the book of those calls gives.
-use mathlib.Core.Path.{_≡_, ap, _∙_}
+use mathlib.Core.Path.{_≡_, refl, ap, _∙_, subst}
 use mathlib.Core.List.{List, [], _∷_, reverse}
-use mathlib.Core.Bool.{true, false}
-use lib.ListN.{length}
+use Prim.Native.Nat.{ℕ}
 use Rattle.wire_layout.specs.declared.message.Header.{Header}
 use Rattle.wire_layout.specs.declared.message.Body.{Body}
 use Rattle.wire_layout.specs.declared.message.Body.the-variants as bodies
 use Rattle.numbers.specs.declared.stamp.Stamp.{Stamp}
-use Rattle.numbers.specs.declared.refusal.Refusal.the-variants.{NotReady}
-use Prim.Native.Nat.{ℕ, _%_, _^_}
-use Rattle.rules_watch.specs.declared.window.Sample.{Sample}
-use Rattle.rules_watch.specs.Totals.{pointsOf, lineThrough}
-use Rattle.rules_watch.specs.declared.Drift.{Drift}
-use Rattle.rules_watch.specs.declared.Drift.the-variants as drift
-use Rattle.rules_watch.specs.Rules.{due, windowOf, lineSince}
-use Rattle.rules_watch.proofs.Outcomes.{line-is}
-use Rattle.unit_ticking.specs.Ticking.{lineBy}
-use Rattle.unit_core.specs.declared.calls.Answer.the-variants as answers
 use Rattle.rules_settings.specs.declared.Settings.{Settings}
-use Rattle.rules_settings.specs.declared.Given.{Given}
-use Rattle.rules_settings.specs.declared.Set.the-variants.{Accepted}
-use Rattle.rules_settings.specs.Ranges.{settingsOf}
 use Rattle.unit_core.specs.declared.calls.Call.{Call}
 use Rattle.unit_core.specs.declared.calls.Call.the-variants as calls
+use Rattle.unit.specs.declared.Unit.{Unit}
+use Rattle.unit.specs.declared.handing.Asked.{Asked}
+use Rattle.unit.specs.declared.handing.Asked.the-variants.{Barred, Asks}
 use Rattle.unit.specs.Receiving.{receives, tableBy}
 use Rattle.unit.specs.Machine.{Past, effectAfter, past, answerAfter}
-use Rattle.unit.specs.Calls.{tableAfter, freshUnit, stepOf}
-use Rattle.unit.proofs.Simulation.{played}
-use Rattle.unit.proofs.Demands.{answers-told}
-use Rattle.story.specs.Book.{Book, samples, wipeCount}
+use Rattle.unit.specs.Calls.{tableAfter, freshUnit}
+use Rattle.unit.specs.Handing.{Handed, askedOf, steppedBy, servedOf, servedAll, withAsked, callsIn}
+use Rattle.unit.proofs.Simulation.{played, all-answers}
+use Rattle.unit.proofs.Served.{served-is, calls-reversed}
+use Rattle.story.specs.Book.{Book}
 use Rattle.story.specs.Saying.{messageAnswer, answer}
-use Rattle.story.specs.Tale.{book, answerByHistory}
+use Rattle.story.specs.Tale.{answerTo, writtenBy, book, answerByHistory}
 use Rattle.story.proofs.Tells.{Tells, start-tells, Agrees}
 use Rattle.story.proofs.Calling.{hears-sync, hears-follow, hears-resp, hears-req, sent-told, request-told, reset-told}
 use Rattle.story.proofs.Others.{announce-told, time-told, tick-told, line-told, show-told}
@@ -58,40 +48,25 @@ module _ (s : Settings) (b : Book) (p : Past) (h : Tells s b p) where
   step calls.Show = show-told s b p h
 
 -- any list of calls, the newest first
-pub tells : (s : Settings) (before : List Call) → Tells s (book s before) (past s before)
-unfolding book past
+asked-tells : (s : Settings) (b : Book) (before : List Call) → Tells s b (past s before) → (a : Asked) → Tells s (writtenBy s b a) (past s (withAsked a before))
+unfolding past
+asked-tells s b before t (Barred r) = t
+asked-tells s b before t (Asks call) = step s b (past s before) t call .tells
+
+pub tells : (s : Settings) (before : List (Handed ℕ)) → Tells s (book s before) (past s (callsIn before))
+unfolding book past callsIn
 tells s [] = start-tells s
-tells s (call ∷ before) = step s (book s before) (past s before) (tells s before) call .tells
+tells s (call ∷ before) = asked-tells s (book s before) (callsIn before) (tells s before) (askedOf call)
 
-pub refines : (s : Settings) (before : List Call) (call : Call) → answerAfter s before call ≡ answerByHistory s before call
-unfolding answerAfter answerByHistory
-refines s before call = step s (book s before) (past s before) (tells s before) call .says
+-- and so for the unit itself, whatever its settings: the calls oldest first, refused ones among them
+pub past-tells : (s : Settings) (list : List (Handed ℕ)) → Tells s (book s (reverse list)) (past s (reverse (callsIn list)))
+past-tells s list = subst (λ (l : List Call). Tells s (book s (reverse list)) (past s l)) (calls-reversed list) (tells s (reverse list))
 
--- and so for the unit itself: its settings accepted, the calls oldest first, refused ones among them
-pub unit-refines : (g : Given) (s : Settings) → settingsOf g ≡ Accepted s → (list : List Call) (call : Call)
-    → stepOf (played (freshUnit s) list) call .answer ≡ answerByHistory s (reverse list) call
-unit-refines g s set list call = answers-told g s set list call ∙ refines s (reverse list) call
+asked-refines : (s : Settings) (list : List (Handed ℕ)) (a : Asked) → steppedBy (played (freshUnit s) (callsIn list)) a .answer ≡ answerTo s (book s (reverse list)) a
+unfolding answerAfter
+asked-refines s list (Barred r) = refl
+asked-refines s list (Asks call) = all-answers s (callsIn list) call ∙ step s (book s (reverse list)) (past s (reverse (callsIn list))) (past-tells s list) call .says
 
--- demand 3 over the book: a line is given exactly when the samples taken since the last wipe reach the holdoff and the valid ones among the last W of
--- them the minimum; it is the line through those, with the number of wipes
-module _ (g : Given) (s : Settings) (set : settingsOf g ≡ Accepted s) (list : List Call) where
-  abbrev B : Book
-  B = book s (reverse list)
-
-  abbrev taken : List Sample
-  taken = samples s B .samples
-
-  due-line : due (s .watch) (length taken) (windowOf (s .watch) taken) ≡ true → lineSince (s .watch) (samples s B) ≡ drift.Line (lineThrough (pointsOf (windowOf (s .watch) taken)))
-  due-line e = line-is (s .watch) (length taken) (windowOf (s .watch) taken) ∙ rw e
-
-  early-line : due (s .watch) (length taken) (windowOf (s .watch) taken) ≡ false → lineSince (s .watch) (samples s B) ≡ drift.Refused NotReady
-  early-line e = line-is (s .watch) (length taken) (windowOf (s .watch) taken) ∙ rw e
-
-  pub line-when-due : due (s .watch) (length taken) (windowOf (s .watch) taken) ≡ true
-      → stepOf (played (freshUnit s) list) calls.Line .answer ≡ answers.Line (lineThrough (pointsOf (windowOf (s .watch) taken))) (wipeCount B % 2 ^ 32)
-  unfolding answerByHistory answer
-  line-when-due e = unit-refines g s set list calls.Line ∙ ap (λ (d : Drift). lineBy d (wipeCount B % 2 ^ 32)) (due-line e)
-
-  pub line-only-when-due : due (s .watch) (length taken) (windowOf (s .watch) taken) ≡ false → stepOf (played (freshUnit s) list) calls.Line .answer ≡ answers.Refused NotReady
-  unfolding answerByHistory answer
-  line-only-when-due e = unit-refines g s set list calls.Line ∙ ap (λ (d : Drift). lineBy d (wipeCount B % 2 ^ 32)) (early-line e)
+pub unit-refines : (s : Settings) (list : List (Handed ℕ)) (call : Handed ℕ) → servedOf (servedAll (freshUnit s) list) call .answer ≡ answerByHistory s (reverse list) call
+unfolding servedOf answerByHistory
+unit-refines s list call = ap (λ (c : Unit). steppedBy c (askedOf call) .answer) (served-is (freshUnit s) list) ∙ asked-refines s list (askedOf call)

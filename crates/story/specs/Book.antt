@@ -12,9 +12,7 @@ use Rattle.wire_layout.specs.declared.message.Header.{Header}
 use Rattle.wire_layout.specs.declared.message.Body.{Body}
 use Rattle.wire_layout.specs.declared.message.Body.the-variants as bodies
 use Rattle.rules_masters.specs.declared.chosen.Chosen.{Chosen}
-use Rattle.rules_masters.specs.Holding.{freshChosen}
-use Rattle.rules_masters.specs.declared.chosen.Decision.{Decision}
-use Rattle.rules_masters.specs.declared.chosen.Decision.the-variants as decisions
+use Rattle.rules_masters.specs.Holding.{freshChosen, masterOf}
 use Rattle.rules_exchange.specs.declared.said.Said.{Said}
 use Rattle.rules_exchange.specs.declared.said.Said.the-variants as says
 use Rattle.rules_exchange.specs.Said.{Verdict, rejected, huge, path, accepted, faultsOf, askedBy, verdictOf}
@@ -53,13 +51,9 @@ toldBy (answers.Line l n) = none
 toldBy (answers.Shows x) = none
 
 -- the choice that was made
-abbrev pub chosenIn : Decision → Chosen
-chosenIn (decisions.Same c) = c
-chosenIn (decisions.Changed c) = c
-
 abbrev pub choiceBy : Answer → Option Chosen
 choiceBy (answers.Refused n) = none
-choiceBy (answers.Choice d) = some (chosenIn d)
+choiceBy (answers.Choice d) = some (masterOf d)
 choiceBy (answers.Exchange said output) = none
 choiceBy (answers.Watch p) = none
 choiceBy answers.Wiped = none

@@ -8,8 +8,8 @@ use lib.IntN.{ℤ}
 use Rattle.numbers.specs.declared.refusal.Refusal.the-variants.{Kind}
 use Rattle.numbers.specs.declared.ruling.Ruling.{Ruling}
 use Rattle.numbers.specs.declared.ruling.Ruling.the-variants.{Clear, Barred}
-use Rattle.numbers.specs.Grounds.{Due, firstOf}
-use Rattle.numbers.specs.Orders.{ofExchange, ofTime}
+use Rattle.numbers.specs.Grounds.{firstOf}
+use Rattle.numbers.specs.Orders.{Due, ofExchange, ofTime}
 use Rattle.numbers.specs.declared.stamp.Stamp.{Stamp}
 use Rattle.numbers.specs.declared.units.Ppb.{Ppb}
 use Rattle.wire_layout.specs.declared.message.Header.{Header}
@@ -38,7 +38,7 @@ use Rattle.unit_core.specs.declared.calls.Call.the-variants as calls
 use Rattle.unit_core.specs.declared.calls.Answer.{Answer}
 use Rattle.unit_core.specs.declared.calls.Answer.the-variants as answers
 use Rattle.unit_choosing.specs.Choosing.{timeDue}
-use Rattle.unit_measuring.specs.Barring.{messageDue, ownDue}
+use Rattle.unit_measuring.specs.Barring.{fieldIn, messageDue, ownDue}
 use Rattle.unit_measuring.specs.Hearing.{twoStepIn}
 use Rattle.unit_measuring.specs.Asking.{requestDue}
 use Rattle.unit_core.specs.Showing.{portOf}
@@ -87,15 +87,15 @@ module _ (s : Settings) (b : Book) where
   admissionAnswer now m (admission.Renewed p) = choiceAnswer now (came p now m ∷ seats s b)
   admissionAnswer now m (admission.Entered p) = choiceAnswer now (came p now m ∷ seats s b)
 
-  -- ---- a message: a Delay_Req is KIND before all else, and a Sync alone has a t2
+  -- ---- a message: a Delay_Req is KIND before all else
   abbrev pub messageAnswer : ℕ → Stamp → Header → Body → Answer
   messageAnswer now t2 h (bodies.Announce stamp offer) =
       admissionAnswer now (record { header = h; stamp = stamp; offer = offer })
       (seatAnswer (s .domain) (s .own) (s .announce) (seats s b) (record { header = h; stamp = stamp; offer = offer }) now)
   messageAnswer now t2 h (bodies.DelayReq t) = answers.Refused Kind
-  messageAnswer now t2 h (bodies.Sync t1) = fromMaster now h (fieldOf t2) (sync (twoStepIn h) (h .sequence) (h .correction) t1 t2)
-  messageAnswer now t2 h (bodies.FollowUp t1) = fromMaster now h false (followUp (h .sequence) (h .correction) t1)
-  messageAnswer now t2 h (bodies.DelayResp t4 p) = fromMaster now h false (delayResp (h .sequence) (h .correction) t4 p (s .own))
+  messageAnswer now t2 h (bodies.Sync t1) = fromMaster now h (fieldIn t2 (bodies.Sync t1)) (sync (twoStepIn h) (h .sequence) (h .correction) t1 t2)
+  messageAnswer now t2 h (bodies.FollowUp t1) = fromMaster now h (fieldIn t2 (bodies.FollowUp t1)) (followUp (h .sequence) (h .correction) t1)
+  messageAnswer now t2 h (bodies.DelayResp t4 p) = fromMaster now h (fieldIn t2 (bodies.DelayResp t4 p)) (delayResp (h .sequence) (h .correction) t4 p (s .own))
 
   -- ---- the watch
   abbrev pub pulseAnswer : Outcome → Answer
@@ -115,7 +115,7 @@ module _ (s : Settings) (b : Book) where
   answer (calls.Receive now arrival m) = messageAnswer now arrival (m .header) (m .body)
   answer (calls.Request now room) = calling (requestDue (staysIn b) now room) (requested (sequence b))
   answer (calls.Sent now n t3) = calling (ownDue (staysIn b) now (fieldOf t3)) (sent n t3)
-  answer (calls.Time now) = unlessBarred (firstOf (ofTime (timeDue (staysIn b) now))) (choiceAnswer now (seats s b))
+  answer (calls.Time now) = unlessBarred (firstOf (ofTime (timeDue (lastNow b) now))) (choiceAnswer now (seats s b))
   answer calls.Reset = answers.Wiped
   answer (calls.Tick r c) = pulseAnswer (outcome (s .watch) (samples s b) r c)
   answer calls.Line = lineBy (lineSince (s .watch) (samples s b)) (wipeCount b % 2 ^ 32)

@@ -7,8 +7,8 @@ use lib.Dec.{leb, ltb, eqb}
 use lib.IntN.{ℤ, pos, _+ℤ_, _-ℤ_}
 use lib.ListN.{take}
 use Rattle.numbers.specs.Stamps.{belowOf}
-use Rattle.numbers.specs.Grounds.{firstOf, answerBy, noneDue}
-use Rattle.numbers.specs.Orders.{ofExchange}
+use Rattle.numbers.specs.Grounds.{firstOf, answerBy}
+use Rattle.numbers.specs.Orders.{noneDue, ofExchange}
 use Rattle.numbers.specs.declared.stamp.Stamp.{Stamp}
 use Rattle.numbers.specs.declared.refusal.Refusal.the-variants.{Unmatched}
 use Rattle.rules_exchange.specs.declared.Answer.{Answer}

@@ -1,6 +1,6 @@
 -- From an empty table, after any history, an Announce gets the answer that the history gives, and the master chosen is the one that it gives.
 use mathlib.Core.Path.{_≡_, refl, sym, ap, _∙_, subst}
-use mathlib.Core.List.{List, [], _∷_}
+use mathlib.Core.List.{List, [], _∷_, map}
 use mathlib.Core.Option.{none, some}
 use mathlib.Core.Bool.{Bool, true, false, cond, not, _&&_}
 use Prim.Native.Nat.{ℕ, zero, suc, _<_, _≤_}
@@ -15,17 +15,19 @@ use Rattle.numbers.specs.Grounds.{firstOf}
 use Rattle.wire_layout.specs.declared.message.Port.{Port}
 use Rattle.rules_masters.specs.declared.record.Announce.{Announce}
 use Rattle.rules_masters.specs.declared.record.Record.{Record}
+use Rattle.rules_masters.specs.declared.standing.Standing.{Standing}
 use Rattle.rules_masters.specs.declared.admission.Admitted.{Admitted}
 use Rattle.rules_masters.specs.declared.admission.Answer.{Answer}
 use Rattle.rules_masters.specs.declared.admission.Answer.the-variants.{Renewed, Entered}
 use Rattle.rules_masters.specs.Records.{intervalOf, liveOf, knownOf, qualifiedOf, freshRecord, enteredOf, renewedOf}
-use Rattle.rules_masters.specs.Places.{placeOf, countOf, absent, freshTable}
-use Rattle.rules_masters.specs.Admitting.{home as homeIn, isRepeat as repeatIn, isFull as fullIn, acceptedOf, groundsOf, admittedBy, admittedOf}
+use Rattle.rules_masters.specs.Places.{placeOf, countOf, freshTable}
+use Rattle.rules_masters.specs.Admitting.{isRepeat as repeatIn, isFull as fullIn, standingsIn, acceptedOf, groundsOf, admittedBy, admittedOf}
 use Rattle.rules_masters.specs.Choosing.{those, choiceAmong, inOrder, choiceOf}
 use Rattle.rules_masters.specs.Holding.{chosenAt}
 use Rattle.rules_masters.proofs.Barring.{clear-announce}
-use Rattle.rules_masters.proofs.Placing.{place-holds, has-room, opposite}
+use Rattle.rules_masters.proofs.Placing.{place-holds, has-room, absent, opposite}
 use Rattle.rules_masters.proofs.Order.{in-order}
+use Rattle.rules_masters.proofs.Standings.{home-same as known-asked, free-same as free-asked, live-same as live-asked, repeat-same as repeat-asked}
 use Rattle.story_lists.specs.Reading.{all, with-it}
 use Rattle.story_masters.specs.Announces.{Log, came, passed, lastNow, Arrival, senderOf, arrivalsAt, places, isHome, betterAnnounce}
 use Rattle.story_masters.specs.Places.{lastIs, home, free, isRepeat, isFull, seatBy, answer, asMaster, chosenIn}
@@ -51,15 +53,21 @@ module _ (interval : ℕ) (l : Log) (k : Memory) (h : Tells interval l k) where
 
   -- ---- an Announce
   module _ (m : Announce) (now : ℕ) where
-    homes : homeIn T m interval now ≡ home l m interval now
+    abbrev asked : List Standing
+    asked = standingsIn T m interval now
+
+    abbrev homeIn : ℕ
+    homeIn = placeOf (knownOf (senderOf m) now interval) T
+
+    homes : homeIn ≡ home l m interval now
     homes = place-same (lastNow l) interval _ _ (home-same (lastNow l) interval now (senderOf m)) (places l) T alike
 
     frees : placeOf (absent now interval) T ≡ free l m interval now
     frees = place-same (lastNow l) interval _ _ (absent-same (lastNow l) interval now) (places l) T alike
 
-    known-home : homeIn T m interval now < 5 → isHome now interval (senderOf m) (arrivalsAt (homeIn T m interval now) l) ≡ true
+    known-home : homeIn < 5 → isHome now interval (senderOf m) (arrivalsAt homeIn l) ≡ true
     known-home c =
-        let q = homeIn T m interval now in
+        let q = homeIn in
         sym (home-same (lastNow l) interval now (senderOf m) (arrivalsAt q l) (getD T q freshRecord) (h .seats q))
         ∙ place-holds (knownOf (senderOf m) now interval) T freshRecord (rw (h .five) c)
 
@@ -72,21 +80,27 @@ module _ (interval : ℕ) (l : Log) (k : Memory) (h : Tells interval l k) where
     abbrev Number : ℕ
     Number = m .header .sequence
 
-    repeats : (p : ℕ) → homeIn T m interval now ≡ p → ltb (homeIn T m interval now) 5 && eqb (getD T (homeIn T m interval now) freshRecord .announce .header .sequence) Number ≡ ltb p 5 && lastIs Number (arrivalsAt p l)
-    repeats p e = go (ltb (homeIn T m interval now) 5) refl ∙ ap (λ (q : ℕ). ltb q 5 && lastIs Number (arrivalsAt q l)) e
+    abbrev repeatAt : ℕ → Bool
+    repeatAt place = getD (map (λ (s : Standing). s .repeats) asked) place false
+
+    repeats : (p : ℕ) → homeIn ≡ p → ltb homeIn 5 && repeatAt homeIn ≡ ltb p 5 && lastIs Number (arrivalsAt p l)
+    repeats p e = go (ltb homeIn 5) refl ∙ ap (λ (q : ℕ). ltb q 5 && lastIs Number (arrivalsAt q l)) e
       where
-        go : (b : Bool) → ltb (homeIn T m interval now) 5 ≡ b
-            → b && eqb (getD T (homeIn T m interval now) freshRecord .announce .header .sequence) Number ≡ b && lastIs Number (arrivalsAt (homeIn T m interval now) l)
-        go true f = sequence-same Number (arrivalsAt (homeIn T m interval now) l) (getD T (homeIn T m interval now) freshRecord) (h .seats (homeIn T m interval now)) (known-home (ltb-true _ _ f))
+        go : (b : Bool) → ltb homeIn 5 ≡ b → b && repeatAt homeIn ≡ b && lastIs Number (arrivalsAt homeIn l)
+        go true f =
+            let c = ltb-true homeIn 5 f in
+            repeat-asked m interval now T homeIn (rw (h .five) c)
+            ∙ sequence-same Number (arrivalsAt homeIn l) (getD T homeIn freshRecord) (h .seats homeIn) (known-home c)
         go false f = refl
 
-    repeat-same : repeatIn T m interval now ≡ isRepeat l m interval now
+    repeat-same : repeatIn asked ≡ isRepeat l m interval now
     unfolding repeatIn
-    repeat-same = repeats (home l m interval now) homes
+    repeat-same = rw (known-asked m interval now T) (repeats (home l m interval now) homes)
 
-    full-same : fullIn T m interval now ≡ isFull l m interval now
+    full-same : fullIn asked ≡ isFull l m interval now
     unfolding fullIn
-    full-same = rw (homes, count-same (lastNow l) interval _ _ (live-same (lastNow l) interval now) (places l) T alike)
+    full-same =
+        rw (known-asked m interval now T, live-asked m interval now T, homes, count-same (lastNow l) interval _ _ (live-same (lastNow l) interval now) (places l) T alike)
 
     -- one place has this Announce
     abbrev New : Arrival
@@ -109,18 +123,24 @@ module _ (interval : ℕ) (l : Log) (k : Memory) (h : Tells interval l k) where
       pub says : r .answer ≡ said
       pub tells : Tells interval (logBy l now m said) (record { table = r .table; last = lastAfter (k .last) now (r .answer) })
 
-    accepts : lastNow l ≤ now → fullIn T m interval now ≡ false → Agrees (acceptedOf T m interval now) (seatBy l m interval now Clear)
+    accepts : lastNow l ≤ now → fullIn asked ≡ false → Agrees (acceptedOf T m interval now) (seatBy l m interval now Clear)
     unfolding acceptedOf fullIn
     accepts later room =
-        subst (λ (p : ℕ). Agrees (acceptedOf T m interval now) (cond (ltb p 5) (Renewed p) (Entered (free l m interval now)))) homes
-        (subst (λ (f : ℕ). Agrees (acceptedOf T m interval now) (cond (ltb P 5) (Renewed P) (Entered f))) frees
-        (go (ltb P 5) refl room))
+        rw (known-asked m interval now T, free-asked m interval now T)
+        (subst (λ (p : ℕ). Agrees put (cond (ltb p 5) (Renewed p) (Entered (free l m interval now)))) homes
+        (subst (λ (f : ℕ). Agrees put (cond (ltb P 5) (Renewed P) (Entered f))) frees
+        (go (ltb P 5) refl (rw (known-asked m interval now T, live-asked m interval now T) at room))))
       where
         P : ℕ
-        P = homeIn T m interval now
+        P = homeIn
 
         F : ℕ
         F = placeOf (absent now interval) T
+
+        put : Admitted
+        put =
+            cond (ltb P 5) (record { answer = Renewed P; table = record { records = set T P (renewedOf (getD T P freshRecord) m now) } })
+            (record { answer = Entered F; table = record { records = set T F (enteredOf m now) } })
 
         go : (b : Bool) → ltb P 5 ≡ b → (not b && leb 5 (countOf (liveOf now interval) T)) ≡ false
             → Agrees
@@ -147,7 +167,7 @@ module _ (domain : ℕ) (own : Port) (a : ℕ) (l : Log) (k : Memory) (h : Tells
       go : (v : Ruling) → firstOf (groundsOf (k .table) m domain own a (k .last) now) ≡ v
           → Agrees (intervalOf a) l k h m now (admittedBy v (k .table) (acceptedOf (k .table .records) m (intervalOf a) now)) (seatBy l m (intervalOf a) now v)
       go Clear e =
-          let n = clear-announce _ _ _ _ _ _ _ e in
+          let n = clear-announce _ _ _ _ _ (asked (intervalOf a) l k h m now) e in
           accepts (intervalOf a) l k h m now (rw (h .last) at (ltb-false now (k .last) (n .0))) (n .2)
       go (Barred r) e = record { says = refl; tells = h }
 

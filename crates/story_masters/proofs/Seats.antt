@@ -11,7 +11,7 @@ use Rattle.wire_layout.specs.declared.message.Port.{Port}
 use Rattle.rules_masters.specs.declared.record.Announce.{Announce}
 use Rattle.rules_masters.specs.declared.record.Record.{Record}
 use Rattle.rules_masters.specs.Records.{liveOf, knownOf, qualifiedOf, sameKeyOf, enteredOf, renewedOf}
-use Rattle.rules_masters.specs.Places.{absent}
+use Rattle.rules_masters.proofs.Placing.{absent}
 use Rattle.story_lists.specs.Reading.{all, newest, first, with-it}
 use Rattle.story_masters.specs.Announces.{Arrival, senderOf, isLive, isHome, twoGood, from, aQualified}
 

@@ -4,9 +4,11 @@ use mathlib.Core.Option.{Option, none, some}
 use mathlib.Core.Bool.{Bool, true, false, cond, not, _&&_}
 use Prim.Native.Nat.{ℕ}
 use lib.Dec.{leb, ltb, eqb}
+use Rattle.numbers.specs.declared.refusal.Refusal.the-variants.{Repeat, Full}
 use Rattle.numbers.specs.declared.ruling.Ruling.{Ruling}
 use Rattle.numbers.specs.declared.ruling.Ruling.the-variants.{Clear, Barred}
 use Rattle.numbers.specs.Grounds.{firstOf}
+use Rattle.numbers.specs.Orders.{Due, noneDue, dueWith}
 use Rattle.wire_layout.specs.declared.message.Port.{Port}
 use Rattle.rules_masters.specs.declared.record.Announce.{Announce}
 use Rattle.rules_masters.specs.declared.chosen.Chosen.{Chosen}
@@ -42,6 +44,9 @@ module _ (l : Log) (m : Announce) (interval now : ℕ) where
   abbrev pub isFull : Bool
   isFull = not (ltb home 5) && leb 5 (countOf (isLive now interval) (places l))
 
+  abbrev pub heldDue : Due
+  heldDue = dueWith Repeat isRepeat (dueWith Full isFull noneDue)
+
   abbrev pub seatBy : Ruling → Answer
   seatBy Clear = cond (ltb home 5) (Renewed home) (Entered free)
   seatBy (Barred r) = Refused r
@@ -49,7 +54,7 @@ module _ (l : Log) (m : Announce) (interval now : ℕ) where
 -- the first refusal that is due, if one is; else the place
 unfoldable pub answer : ℕ → Port → ℕ → Log → Announce → ℕ → Answer
 answer domain own a l m now =
-    seatBy l m (intervalOf a) now (firstOf (groundsWith m domain own (lastNow l) now (isRepeat l m (intervalOf a) now) (isFull l m (intervalOf a) now)))
+    seatBy l m (intervalOf a) now (firstOf (groundsWith m domain own (lastNow l) now (heldDue l m (intervalOf a) now)))
 
 -- the sender of the Announce chosen is the master
 abbrev pub asMaster : Option Announce → Chosen

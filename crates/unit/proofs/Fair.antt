@@ -18,6 +18,7 @@ use Rattle.rules_masters.specs.declared.record.Announce.{Announce}
 use Rattle.rules_masters.specs.declared.table.Table.{Table}
 use Rattle.rules_masters.specs.declared.admission.Answer.{Answer as Admission}
 use Rattle.rules_masters.specs.declared.admission.Answer.the-variants as answers
+use Rattle.rules_masters.specs.declared.chosen.Decision.{Decision}
 use Rattle.rules_masters.specs.Holding.{chosenAt, sameMasterOf}
 use Rattle.rules_exchange.specs.declared.Exchange.{Exchange}
 use Rattle.rules_exchange.specs.declared.said.Said.{Said}
@@ -32,9 +33,9 @@ use Rattle.rules_servo.proofs.Theorems.{output-kept}
 use Rattle.rules_settings.specs.declared.Settings.{Settings}
 use Rattle.unit_core.specs.Effects.{Stays, Progress, Effect, keeps, goes, takes, wipes, unless, withNow}
 use Rattle.unit_core.specs.Answers.{isRefusal, wipesOf}
-use Rattle.unit_choosing.specs.Choosing.{timeDue, admission, chooses, admits, announces, timePasses}
+use Rattle.unit_choosing.specs.Choosing.{timeDue, admission, holdsBy, chooses, admits, announces, timePasses}
 use Rattle.unit_measuring.specs.Measuring.{bySaid, byAnswer, exchanges}
-use Rattle.unit_measuring.specs.Barring.{messageDue, ownDue}
+use Rattle.unit_measuring.specs.Barring.{fieldIn, messageDue, ownDue}
 use Rattle.unit_measuring.specs.Hearing.{twoStepIn, hearsEvent, hears}
 use Rattle.unit_measuring.specs.Asking.{requestGrounds, withNextSequence, requests, sends}
 use Rattle.unit_ticking.proofs.Pulses.{byTest}
@@ -53,7 +54,7 @@ Fair most (wipes a k) = (isRefusal a ≡ false) × (wipesOf a ≡ true)
 module _ (s : Settings) (k : Stays) (r : Progress) (most : ℕ) (limit : up (s .limit .0) ≤ most) (within : steering r ≤ most) where
   fair-chooses : (t : Table) (now : ℕ) → Fair most (chooses s k r t now)
   unfolding chooses
-  fair-chooses t now = byTest (Fair most) (sameMasterOf (k .chosen) (chosenAt (t .records) now (s .announce))) (refl, (refl, within)) (refl, refl)
+  fair-chooses t now = byTest (λ (d : Decision). Fair most (holdsBy k r now (chosenAt (t .records) now (s .announce)) d)) (sameMasterOf (k .chosen) (chosenAt (t .records) now (s .announce))) (refl, (refl, within)) (refl, refl)
 
   fair-admits : (t : Table) (now : ℕ) (a : Admission) → Fair most (admits s k r t now a)
   fair-admits t now (answers.Refused n) = refl
@@ -89,10 +90,10 @@ module _ (s : Settings) (k : Stays) (r : Progress) (most : ℕ) (limit : up (s .
 
   pub fair-heard : (now : ℕ) (t2 : Stamp) (h : Header) (b : Body) → Fair most (hears s k r now t2 h b)
   unfolding hears
-  fair-heard now t2 h (bodies.Sync t1) = fair-event now h (fieldOf t2) (sync (twoStepIn h) (h .sequence) (h .correction) t1 t2)
+  fair-heard now t2 h (bodies.Sync t1) = fair-event now h (fieldIn t2 (bodies.Sync t1)) (sync (twoStepIn h) (h .sequence) (h .correction) t1 t2)
   fair-heard now t2 h (bodies.DelayReq t) = refl
-  fair-heard now t2 h (bodies.FollowUp t1) = fair-event now h false (followUp (h .sequence) (h .correction) t1)
-  fair-heard now t2 h (bodies.DelayResp t4 p) = fair-event now h false (delayResp (h .sequence) (h .correction) t4 p (s .own))
+  fair-heard now t2 h (bodies.FollowUp t1) = fair-event now h (fieldIn t2 (bodies.FollowUp t1)) (followUp (h .sequence) (h .correction) t1)
+  fair-heard now t2 h (bodies.DelayResp t4 p) = fair-event now h (fieldIn t2 (bodies.DelayResp t4 p)) (delayResp (h .sequence) (h .correction) t4 p (s .own))
   fair-heard now t2 h (bodies.Announce t offer) = refl
 
   pub fair-announce : (t : Table) (now : ℕ) (m : Announce) → Fair most (announces s k r t now m)
@@ -109,4 +110,4 @@ module _ (s : Settings) (k : Stays) (r : Progress) (most : ℕ) (limit : up (s .
 
   pub fair-time : (t : Table) (now : ℕ) → Fair most (timePasses s k r t now)
   unfolding timePasses
-  fair-time t now = fair-unless (firstOf (ofTime (timeDue k now))) (chooses s k r t now) (fair-chooses t now)
+  fair-time t now = fair-unless (firstOf (ofTime (timeDue (k .now) now))) (chooses s k r t now) (fair-chooses t now)

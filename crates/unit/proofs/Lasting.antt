@@ -14,6 +14,7 @@ use Rattle.rules_masters.specs.declared.record.Announce.{Announce}
 use Rattle.rules_masters.specs.declared.table.Table.{Table}
 use Rattle.rules_masters.specs.declared.admission.Answer.{Answer as Admission}
 use Rattle.rules_masters.specs.declared.admission.Answer.the-variants as answers
+use Rattle.rules_masters.specs.declared.chosen.Decision.{Decision}
 use Rattle.rules_masters.specs.Holding.{chosenAt, sameMasterOf}
 use Rattle.rules_exchange.specs.declared.Exchange.{Exchange}
 use Rattle.rules_exchange.specs.declared.said.Said.{Said}
@@ -27,9 +28,9 @@ use Rattle.rules_watch.specs.declared.judging.Outcome.{Outcome}
 use Rattle.rules_watch.specs.declared.judging.Outcome.the-variants.{Refuse, Wipe, Take}
 use Rattle.rules_settings.specs.declared.Settings.{Settings}
 use Rattle.unit_core.specs.Effects.{Stays, Progress, Effect, keeps, goes, takes, wipes, unless, withNow}
-use Rattle.unit_choosing.specs.Choosing.{timeDue, admission, chooses, admits, announces, timePasses}
+use Rattle.unit_choosing.specs.Choosing.{timeDue, admission, holdsBy, chooses, admits, announces, timePasses}
 use Rattle.unit_measuring.specs.Measuring.{bySaid, byAnswer, exchanges}
-use Rattle.unit_measuring.specs.Barring.{messageDue, ownDue}
+use Rattle.unit_measuring.specs.Barring.{fieldIn, messageDue, ownDue}
 use Rattle.unit_measuring.specs.Hearing.{twoStepIn, hearsEvent, hears}
 use Rattle.unit_measuring.specs.Asking.{requestGrounds, withNextSequence, requests, sends}
 use Rattle.unit_ticking.specs.Ticking.{ticks}
@@ -45,7 +46,7 @@ Lasting (wipes a k) = k .faulty ≡ true
 module _ (s : Settings) (k : Stays) (r : Progress) (faulty : k .faulty ≡ true) where
   lasts-chooses : (t : Table) (now : ℕ) → Lasting (chooses s k r t now)
   unfolding chooses
-  lasts-chooses t now = byTest Lasting (sameMasterOf (k .chosen) (chosenAt (t .records) now (s .announce))) faulty faulty
+  lasts-chooses t now = byTest (λ (d : Decision). Lasting (holdsBy k r now (chosenAt (t .records) now (s .announce)) d)) (sameMasterOf (k .chosen) (chosenAt (t .records) now (s .announce))) faulty faulty
 
   lasts-admits : (t : Table) (now : ℕ) (a : Admission) → Lasting (admits s k r t now a)
   lasts-admits t now (answers.Refused n) = tt
@@ -62,7 +63,7 @@ module _ (s : Settings) (k : Stays) (r : Progress) (faulty : k .faulty ≡ true)
 
   pub lasts-time : (t : Table) (now : ℕ) → Lasting (timePasses s k r t now)
   unfolding timePasses
-  lasts-time t now = lasts-unless (firstOf (ofTime (timeDue k now))) (chooses s k r t now) (lasts-chooses t now)
+  lasts-time t now = lasts-unless (firstOf (ofTime (timeDue (k .now) now))) (chooses s k r t now) (lasts-chooses t now)
 
   lasts-said : (m : Stays) → m .faulty ≡ true → (x : Exchange) (said : Said) → Lasting (bySaid s m r x said)
   unfolding bySaid
@@ -80,10 +81,10 @@ module _ (s : Settings) (k : Stays) (r : Progress) (faulty : k .faulty ≡ true)
 
   pub lasts-heard : (now : ℕ) (t2 : Stamp) (h : Header) (b : Body) → Lasting (hears s k r now t2 h b)
   unfolding hears
-  lasts-heard now t2 h (bodies.Sync t1) = lasts-event now h (fieldOf t2) (sync (twoStepIn h) (h .sequence) (h .correction) t1 t2)
+  lasts-heard now t2 h (bodies.Sync t1) = lasts-event now h (fieldIn t2 (bodies.Sync t1)) (sync (twoStepIn h) (h .sequence) (h .correction) t1 t2)
   lasts-heard now t2 h (bodies.DelayReq t) = tt
-  lasts-heard now t2 h (bodies.FollowUp t1) = lasts-event now h false (followUp (h .sequence) (h .correction) t1)
-  lasts-heard now t2 h (bodies.DelayResp t4 p) = lasts-event now h false (delayResp (h .sequence) (h .correction) t4 p (s .own))
+  lasts-heard now t2 h (bodies.FollowUp t1) = lasts-event now h (fieldIn t2 (bodies.FollowUp t1)) (followUp (h .sequence) (h .correction) t1)
+  lasts-heard now t2 h (bodies.DelayResp t4 p) = lasts-event now h (fieldIn t2 (bodies.DelayResp t4 p)) (delayResp (h .sequence) (h .correction) t4 p (s .own))
   lasts-heard now t2 h (bodies.Announce t offer) = tt
 
   pub lasts-request : (now room : ℕ) → Lasting (requests s k r now room)

@@ -1,10 +1,10 @@
--- What is proved of the unit. Demands comes first for a reader: it states what the others prove.
+-- What is proved of the unit. What is demanded of it stands in the crate demands.
 pub mod Fair
 pub mod Lasting
 pub mod Fairly
-mod Refusals
-mod Faults
-mod Wipes
+pub mod Refusals
+pub mod Faults
+pub mod Wipes
 pub mod Simulation
-pub mod Demands
+pub mod Served
 pub mod Numbers

@@ -1,19 +1,36 @@
--- P1 to P12 together (rules 11.1 to 11.12): one statement over the list. Each is proved where its rules are.
+-- Numbers, by computation. P1 to P12 together (rules 11.1 to 11.12): one statement over the list, each proved where its rules are. Then the formulas
+-- without memory, each on both sides of each of its boundaries (rule 11.14); what is expected is worked out by hand from the rule that the line cites.
 use mathlib.Core.Path.{_≡_, refl, ap}
+use mathlib.Core.Bool.{true, false}
 use mathlib.Core.List.{List, [], _∷_}
 use Prim.Native.Nat.{ℕ, _+_}
-use lib.IntN.{ℤ, pos, negsuc}
+use lib.IntN.{ℤ, pos, negsuc, negℤ}
+use Rattle.numbers.specs.declared.stamp.Stamp.{Stamp}
+use Rattle.numbers.specs.Rounding.{roundedOf, halfToEven, floorZ, heldWithin}
+use Rattle.numbers.specs.Stamps.{moment, soundOf, belowOf}
+use Rattle.rules_masters.specs.declared.record.Record.{Record}
+use Rattle.rules_masters.specs.Records.{intervalOf, liveOf, qualifiedOf, freshRecord}
+use Rattle.rules_masters.specs.Comparison.{smaller, betterOf}
+use Rattle.rules_delays.specs.Median.{countBelow, middling, firstMiddling, lowerMiddle}
+use Rattle.rules_delays.specs.Delays.{pathBy, usedBy}
+use Rattle.rules_measure.specs.declared.Sum.the-variants as sums
+use Rattle.rules_measure.specs.Measure.{cutOf, forwardOf, backOf, sumOf, hugeOf, isStep}
 use Rattle.rules_exchange.specs.declared.Answer.{Answer}
 use Rattle.rules_exchange.specs.declared.Answer.the-variants.{Says}
 use Rattle.rules_exchange.specs.declared.said.Said.the-variants.{Neg, Long}
-use Rattle.rules_exchange.specs.Events.{freshExchange, measuredWith}
+use Rattle.rules_exchange.specs.Events.{freshExchange, measuredWith, correctionOf}
 use Rattle.rules_exchange.proofs.Examples.{Measurement, of, answersTo, p1, p2, p3, p4, p5, p5-long, p6, p9-no-step}
-use Rattle.rules_servo.specs.Steps.{freshServo}
+use Rattle.rules_servo.specs.Steps.{integralWith, outputWith, freshServo, halfGain}
+use Rattle.rules_servo.specs.Offsets.{oppositesIn, swingsOf}
+use Rattle.rules_servo.specs.Shows.{sum, squares, near, isTracking, isHoldover}
 use Rattle.rules_servo.proofs.Theorems.{outputs, p7, p8, p9, p10}
 use Rattle.rules_fit.specs.Nearest.{nearestFloat}
 use Rattle.rules_watch.specs.declared.Drift.{Drift}
 use Rattle.rules_watch.specs.declared.Drift.the-variants.{Line}
-use Rattle.rules_watch.specs.Rules.{Stamps}
+use Rattle.rules_watch.specs.declared.Pulse.the-variants.{Back, Range, Jump}
+use Rattle.rules_watch.specs.declared.judging.Outcome.{Outcome}
+use Rattle.rules_watch.specs.declared.judging.Outcome.the-variants.{Wipe, Take}
+use Rattle.rules_watch.specs.Rules.{Stamps, freshSince, outsideOf, followed, onLast, inside}
 use Rattle.rules_watch.specs.Watch.{freshWatch, watchAfter, watchLine}
 use Rattle.rules_watch.proofs.Examples.{bench, p11, p12}
 
@@ -95,3 +112,346 @@ numbers-met =
     also-answers p1 (also-answers p2 (also-answers p3 (also-answers p4 (also-answers p5 (also-answers p5-long (also-answers p6
     (also-outputs p7 (also-outputs p8 (also-outputs p9 (also-answers p9-no-step (also-outputs (p10 .0) (also-outputs (p10 .1)
     (also (ap lined p11) (also (ap lined p12) refl))))))))))))))
+
+-- ---- rounding and limits
+abbrev minus : ℕ → ℤ
+minus n = negℤ (pos n)
+
+-- the fraction over 2, as of a delay, and over 128,000, as of the output
+pub half-to-even : (halfToEven 2 (pos 1) ≡ pos 0)  -- rule 1.5: 1/2
+    × (halfToEven 2 (pos 2) ≡ pos 1)  -- rule 1.5: 1
+    × (halfToEven 2 (pos 3) ≡ pos 2)  -- rule 1.5: 3/2
+    × (halfToEven 2 (pos 5) ≡ pos 2)  -- rule 1.5: 5/2
+    × (halfToEven 2 (minus 1) ≡ pos 0)  -- rule 1.5: -1/2
+    × (halfToEven 2 (minus 3) ≡ minus 2)  -- rule 1.5: -3/2
+    × (halfToEven 2 (minus 5) ≡ minus 2)  -- rule 1.5: -5/2
+    × (halfToEven 128_000 (pos 63_999) ≡ pos 0)  -- rule 1.5: just under 1/2
+    × (halfToEven 128_000 (pos 64_000) ≡ pos 0)  -- rule 1.5: 1/2
+    × (halfToEven 128_000 (pos 64_001) ≡ pos 1)  -- rule 1.5: just over 1/2
+    × (halfToEven 128_000 (pos 191_999) ≡ pos 1)  -- rule 1.5: just under 3/2
+    × (halfToEven 128_000 (pos 192_000) ≡ pos 2)  -- rule 1.5: 3/2
+    × (halfToEven 128_000 (pos 192_001) ≡ pos 2)  -- rule 1.5: just over 3/2
+    × (halfToEven 128_000 (minus 63_999) ≡ pos 0)  -- rule 1.5: the same below 0
+    × (halfToEven 128_000 (minus 64_000) ≡ pos 0)  -- rule 1.5
+    × (halfToEven 128_000 (minus 64_001) ≡ minus 1)  -- rule 1.5
+    × (halfToEven 128_000 (minus 191_999) ≡ minus 1)  -- rule 1.5
+    × (halfToEven 128_000 (minus 192_000) ≡ minus 2)  -- rule 1.5
+    × (halfToEven 128_000 (minus 192_001) ≡ minus 2)  -- rule 1.5
+unfolding roundedOf
+half-to-even = (refl, refl, refl, refl, refl, refl, refl, refl, refl, refl, refl, refl, refl, refl, refl, refl, refl, refl, refl)
+
+pub corrections-cut : (cutOf (pos 0) ≡ pos 0)  -- rules 1.6 and 7.10
+    × (cutOf (pos 65_535) ≡ pos 0)  -- rules 1.6 and 7.10
+    × (cutOf (pos 65_536) ≡ pos 1)  -- rules 1.6 and 7.10
+    × (cutOf (minus 1) ≡ minus 1)  -- rules 1.6 and 7.10
+    × (cutOf (minus 65_536) ≡ minus 1)  -- rules 1.6 and 7.10
+    × (cutOf (minus 65_537) ≡ minus 2)  -- rules 1.6 and 7.10
+unfolding floorZ
+corrections-cut = (refl, refl, refl, refl, refl, refl)
+
+pub limits-held : (heldWithin 100 (pos 99) ≡ pos 99)  -- rule 1.7
+    × (heldWithin 100 (pos 100) ≡ pos 100)  -- rule 1.7
+    × (heldWithin 100 (pos 101) ≡ pos 100)  -- rule 1.7
+    × (heldWithin 100 (minus 99) ≡ minus 99)  -- rule 1.7
+    × (heldWithin 100 (minus 100) ≡ minus 100)  -- rule 1.7
+    × (heldWithin 100 (minus 101) ≡ minus 100)  -- rule 1.7
+limits-held = (refl, refl, refl, refl, refl, refl)
+
+-- ---- stamps
+abbrev at : ℕ → ℕ → Stamp
+at seconds nanoseconds = record { seconds = seconds; nanoseconds = nanoseconds }
+
+pub stamps-sound : (soundOf (at 7 999_999_999) ≡ true)  -- rules 1.2 and 3.5
+    × (soundOf (at 7 1_000_000_000) ≡ false)  -- rules 1.2 and 3.5
+    × (soundOf (at 281_474_976_710_655 0) ≡ true)  -- rules 1.2 and 3.5: 2^48 - 1
+    × (soundOf (at 281_474_976_710_656 0) ≡ false)  -- rules 1.2 and 3.5
+unfolding soundOf
+stamps-sound = (refl, refl, refl, refl)
+
+pub stamps-below : (belowOf (at 7 500) (at 7 501) ≡ true)  -- rule 1.3
+    × (belowOf (at 7 500) (at 7 500) ≡ false)  -- rule 1.3
+    × (belowOf (at 7 501) (at 7 500) ≡ false)  -- rule 1.3
+    × (belowOf (at 7 999_999_999) (at 8 0) ≡ true)  -- rule 1.3
+    × (belowOf (at 8 0) (at 7 999_999_999) ≡ false)  -- rule 1.3
+unfolding belowOf
+stamps-below = (refl, refl, refl, refl, refl)
+
+-- ---- forward and back: t1 and t2, the Sync's correction and the Follow_Up's; t3 and t4, and the Delay_Resp's
+pub forward-told : (forwardOf (at 7 500) (at 7 11_000) (pos 0) (pos 0) ≡ pos 10_500)  -- rule 7.11
+    × (forwardOf (at 7 500) (at 7 500) (pos 0) (pos 0) ≡ pos 0)  -- rule 7.11
+    × (forwardOf (at 7 500) (at 7 499) (pos 0) (pos 0) ≡ minus 1)  -- rule 7.11
+    × (forwardOf (at 7 999_999_999) (at 8 0) (pos 0) (pos 0) ≡ pos 1)  -- rule 7.11: over a second's end
+    × (forwardOf (at 8 0) (at 7 999_999_999) (pos 0) (pos 0) ≡ minus 1)  -- rule 7.11
+    × (forwardOf (at 0 0) (at 281_474_976_710_655 0) (pos 0) (pos 0) ≡ pos 281_474_976_710_655_000_000_000)  -- rule 1.4: all 48 bits
+    × (forwardOf (at 7 500) (at 7 11_000) (pos 65_535) (pos 0) ≡ pos 10_500)  -- rule 7.10: each is cut by itself
+    × (forwardOf (at 7 500) (at 7 11_000) (pos 65_536) (pos 0) ≡ pos 10_499)  -- rule 7.10
+    × (forwardOf (at 7 500) (at 7 11_000) (minus 1) (pos 0) ≡ pos 10_501)  -- rule 7.10
+    × (forwardOf (at 7 500) (at 7 11_000) (pos 0) (pos 65_536) ≡ pos 10_499)  -- rule 7.10
+    × (forwardOf (at 7 500) (at 7 11_000) (pos 32_768) (pos 32_768) ≡ pos 10_500)  -- rule 7.10
+    × (forwardOf (at 7 500) (at 7 11_000) (minus 1) (minus 1) ≡ pos 10_502)  -- rule 7.10
+unfolding forwardOf moment floorZ
+forward-told = (refl, refl, refl, refl, refl, refl, refl, refl, refl, refl, refl, refl)
+
+pub back-told : (backOf (at 7 500) (at 7 10_500) (pos 0) ≡ pos 10_000)  -- rule 7.12
+    × (backOf (at 7 500) (at 7 500) (pos 0) ≡ pos 0)  -- rule 7.12
+    × (backOf (at 7 500) (at 7 499) (pos 0) ≡ minus 1)  -- rule 7.12: a t4 below t3 is nothing special
+    × (backOf (at 7 500) (at 7 10_500) (pos 65_535) ≡ pos 10_000)  -- rule 7.12
+    × (backOf (at 7 500) (at 7 10_500) (pos 65_536) ≡ pos 9_999)  -- rule 7.12
+    × (backOf (at 7 500) (at 7 10_500) (minus 1) ≡ pos 10_001)  -- rule 7.12
+unfolding backOf moment floorZ
+back-told = (refl, refl, refl, refl, refl, refl)
+
+pub corrections-refused : (correctionOf (pos 65_535_999_999_999) ≡ false)  -- rule 3.19: a second is 65,536 x 1,000,000,000
+    × (correctionOf (pos 65_536_000_000_000) ≡ true)  -- rule 3.19
+    × (correctionOf (minus 65_535_999_999_999) ≡ false)  -- rule 3.19
+    × (correctionOf (minus 65_536_000_000_000) ≡ true)  -- rule 3.19
+corrections-refused = (refl, refl, refl, refl)
+
+-- ---- the verdicts on a measurement
+pub sum-judged : (sumOf (minus 1) ≡ sums.Neg)  -- rule 7.13
+    × (sumOf (pos 0) ≡ sums.Delay 0)  -- rule 7.13
+    × (sumOf (pos 1) ≡ sums.Delay 0)  -- rule 7.15: 1/2
+    × (sumOf (pos 3) ≡ sums.Delay 2)  -- rule 7.15: 3/2
+    × (sumOf (pos 19_999_997) ≡ sums.Delay 9_999_998)  -- rule 7.15: a half above 9,999,998
+    × (sumOf (pos 19_999_998) ≡ sums.Delay 9_999_999)  -- rule 7.14
+    × (sumOf (pos 19_999_999) ≡ sums.Long)  -- rule 7.14
+unfolding sumOf roundedOf
+sum-judged = (refl, refl, refl, refl, refl, refl, refl)
+
+pub huge-judged : (hugeOf (pos 999_999_999) ≡ false)  -- rule 7.16
+    × (hugeOf (pos 1_000_000_000) ≡ true)  -- rule 7.16
+    × (hugeOf (minus 999_999_999) ≡ false)  -- rule 7.16
+    × (hugeOf (minus 1_000_000_000) ≡ true)  -- rule 7.16
+huge-judged = (refl, refl, refl, refl)
+
+pub path-judged : (pathBy [] 9_999_999 ≡ false)  -- rule 7.17: none accepted since the wipe
+    × (pathBy (5_000_000 ∷ []) 5_999_999 ≡ false)  -- rule 7.17
+    × (pathBy (5_000_000 ∷ []) 6_000_000 ≡ true)  -- rule 7.17
+    × (pathBy (5_000_000 ∷ []) 4_000_001 ≡ false)  -- rule 7.17
+    × (pathBy (5_000_000 ∷ []) 4_000_000 ≡ true)  -- rule 7.17
+    × (pathBy (5_000_000 ∷ 6_000_000 ∷ []) 6_000_000 ≡ true)  -- rule 7.17: the last one accepted decides
+unfolding pathBy
+path-judged = (refl, refl, refl, refl, refl, refl)
+
+pub step-judged : (isStep (pos 100_000_000) ≡ false)  -- rule 7.24
+    × (isStep (pos 100_000_001) ≡ true)  -- rule 7.24
+    × (isStep (minus 100_000_000) ≡ false)  -- rule 7.24
+    × (isStep (minus 100_000_001) ≡ true)  -- rule 7.24
+step-judged = (refl, refl, refl, refl)
+
+-- ---- the filter: the delays accepted, newest first, the one last used, and this one
+pub delays-filtered : (usedBy [] 0 9_000 ≡ 9_000)  -- rule 7.21: none used since the wipe
+    × (usedBy (10_000 ∷ 10_000 ∷ []) 10_000 11_000 ≡ 11_000)  -- rule 7.21: 1,000 away
+    × (usedBy (10_000 ∷ 10_000 ∷ []) 10_000 11_001 ≡ 10_000)  -- rule 7.21: one more: the median
+    × (usedBy (10_000 ∷ 10_000 ∷ []) 10_000 9_000 ≡ 9_000)  -- rule 7.21
+    × (usedBy (10_000 ∷ 10_000 ∷ []) 10_000 8_999 ≡ 10_000)  -- rule 7.21
+    × (usedBy (20_000 ∷ 20_000 ∷ 10_000 ∷ 10_000 ∷ []) 10_000 20_000 ≡ 20_000)  -- rule 7.22: of five
+    × (usedBy (20_000 ∷ 20_000 ∷ 10_000 ∷ 10_000 ∷ 10_000 ∷ []) 10_000 20_000 ≡ 20_000)  -- rule 7.22: a sixth counts no more
+unfolding usedBy countBelow middling firstMiddling
+delays-filtered = (refl, refl, refl, refl, refl, refl, refl)
+
+pub medians : (lowerMiddle (7 ∷ []) ≡ 7)  -- rule 7.22
+    × (lowerMiddle (9 ∷ 4 ∷ []) ≡ 4)  -- rule 7.22: of two the lower
+    × (lowerMiddle (4 ∷ 9 ∷ []) ≡ 4)  -- rule 7.22
+    × (lowerMiddle (9 ∷ 4 ∷ 6 ∷ []) ≡ 6)  -- rule 7.22
+    × (lowerMiddle (9 ∷ 4 ∷ 6 ∷ 1 ∷ []) ≡ 4)  -- rule 7.22: of the middle two, 4 and 6, the lower
+    × (lowerMiddle (9 ∷ 4 ∷ 6 ∷ 1 ∷ 8 ∷ []) ≡ 6)  -- rule 7.22
+    × (lowerMiddle (5 ∷ 3 ∷ 5 ∷ 3 ∷ 5 ∷ []) ≡ 5)  -- rule 7.22: equal ones count each
+    × (lowerMiddle (3 ∷ 5 ∷ 3 ∷ 5 ∷ 3 ∷ []) ≡ 3)  -- rule 7.22
+unfolding countBelow middling firstMiddling
+medians = (refl, refl, refl, refl, refl, refl, refl, refl)
+
+-- ---- masters
+-- a record by what the comparison asks of its Announce
+abbrev announcing : ℕ → ℕ → ℕ → ℕ → ℕ → ℕ → ℕ → ℕ → ℕ → Record
+announcing priority1 class accuracy variance priority2 grandmaster steps clock number =
+    record {
+      announce =
+          record {
+            header =
+                record {
+                  sdo = 0;
+                  minor = 0;
+                  domain = 0;
+                  minorsdo = 0;
+                  flags = 0;
+                  correction = pos 0;
+                  specific = 0;
+                  source = record { clock = clock; number = number };
+                  sequence = 0;
+                  control = 5;
+                  interval = pos 0;
+                };
+            stamp = at 0 0;
+            offer =
+                record {
+                  utc = pos 37;
+                  reserved = 0;
+                  priority1 = priority1;
+                  class = class;
+                  accuracy = accuracy;
+                  variance = variance;
+                  priority2 = priority2;
+                  grandmaster = grandmaster;
+                  steps = steps;
+                  time = 32;
+                };
+          };
+      held = 2;
+      newer = 0;
+      older = 0;
+    }
+
+-- of different grandmasters, by what is then asked, in its order
+abbrev offering : ℕ → ℕ → ℕ → ℕ → ℕ → ℕ → Record
+offering priority1 class accuracy variance priority2 grandmaster = announcing priority1 class accuracy variance priority2 grandmaster 0 1 1
+
+-- of one grandmaster, by a priority1, which is not asked then, and by what is: steps, the sender's clock identity and its port number
+abbrev sending : ℕ → ℕ → ℕ → ℕ → Record
+sending priority1 steps clock number = announcing priority1 6 33 20_061 128 7 steps clock number
+
+-- each rank by one, with every later rank the other way; the first is better, and the second is not
+pub grandmasters-compared : (betterOf (offering 8 9 9 9 9 9) (offering 9 8 8 8 8 8) ≡ true)  -- rule 5.9: priority1
+    × (betterOf (offering 9 8 8 8 8 8) (offering 8 9 9 9 9 9) ≡ false)  -- rule 5.9
+    × (betterOf (offering 5 8 9 9 9 9) (offering 5 9 8 8 8 8) ≡ true)  -- rule 5.9: clock class
+    × (betterOf (offering 5 9 8 8 8 8) (offering 5 8 9 9 9 9) ≡ false)  -- rule 5.9
+    × (betterOf (offering 5 5 8 9 9 9) (offering 5 5 9 8 8 8) ≡ true)  -- rule 5.9: accuracy
+    × (betterOf (offering 5 5 9 8 8 8) (offering 5 5 8 9 9 9) ≡ false)  -- rule 5.9
+    × (betterOf (offering 5 5 5 8 9 9) (offering 5 5 5 9 8 8) ≡ true)  -- rule 5.9: log variance
+    × (betterOf (offering 5 5 5 9 8 8) (offering 5 5 5 8 9 9) ≡ false)  -- rule 5.9
+    × (betterOf (offering 5 5 5 5 8 9) (offering 5 5 5 5 9 8) ≡ true)  -- rule 5.9: priority2
+    × (betterOf (offering 5 5 5 5 9 8) (offering 5 5 5 5 8 9) ≡ false)  -- rule 5.9
+    × (betterOf (offering 5 5 5 5 5 8) (offering 5 5 5 5 5 9) ≡ true)  -- rule 5.9: the grandmaster's identity
+    × (betterOf (offering 5 5 5 5 5 9) (offering 5 5 5 5 5 8) ≡ false)  -- rule 5.9
+unfolding betterOf smaller
+grandmasters-compared = (refl, refl, refl, refl, refl, refl, refl, refl, refl, refl, refl, refl)
+
+pub senders-compared : (betterOf (sending 9 8 9 9) (sending 8 9 8 8) ≡ true)  -- rule 5.10: stepsRemoved, whatever priority1 says
+    × (betterOf (sending 8 9 8 8) (sending 9 8 9 9) ≡ false)  -- rule 5.10
+    × (betterOf (sending 9 5 8 9) (sending 8 5 9 8) ≡ true)  -- rule 5.10: the sender's clock identity
+    × (betterOf (sending 8 5 9 8) (sending 9 5 8 9) ≡ false)  -- rule 5.10
+    × (betterOf (sending 9 5 5 8) (sending 8 5 5 9) ≡ true)  -- rule 5.10: its port number
+    × (betterOf (sending 8 5 5 9) (sending 9 5 5 8) ≡ false)  -- rule 5.10
+    × (betterOf (sending 8 5 5 5) (sending 9 5 5 5) ≡ false)  -- rule 5.10: one sender is not better than itself
+unfolding betterOf smaller
+senders-compared = (refl, refl, refl, refl, refl, refl, refl)
+
+-- a record by its arrivals: how many, the newer and the older
+abbrev arrived : ℕ → ℕ → ℕ → Record
+arrived held newer older = record { announce = freshRecord .announce; held = held; newer = newer; older = older }
+
+pub records-live : (liveOf 9_000 (intervalOf 0) (arrived 1 5_000 0) ≡ true)  -- rules 5.3 and 5.4: 4 intervals of 1,000 ms
+    × (liveOf 9_001 (intervalOf 0) (arrived 1 5_000 0) ≡ false)  -- rules 5.3 and 5.4
+    × (liveOf 69_000 (intervalOf 4) (arrived 1 5_000 0) ≡ true)  -- rules 5.3 and 5.4: of 16,000 ms
+    × (liveOf 69_001 (intervalOf 4) (arrived 1 5_000 0) ≡ false)  -- rules 5.3 and 5.4
+    × (liveOf 5_000 (intervalOf 0) (arrived 0 5_000 0) ≡ false)  -- rules 5.3 and 5.4: no arrival
+unfolding liveOf
+records-live = (refl, refl, refl, refl, refl)
+
+pub records-qualified : (qualifiedOf 9_000 (intervalOf 0) (arrived 2 8_000 5_000) ≡ true)  -- rule 5.8: 4 intervals after the older
+    × (qualifiedOf 9_001 (intervalOf 0) (arrived 2 8_000 5_000) ≡ false)  -- rule 5.8
+    × (qualifiedOf 9_000 (intervalOf 0) (arrived 2 6_000 6_000) ≡ true)  -- rule 5.8: 3 after the newer
+    × (qualifiedOf 9_001 (intervalOf 0) (arrived 2 6_000 6_000) ≡ false)  -- rule 5.8
+    × (qualifiedOf 9_000 (intervalOf 0) (arrived 1 9_000 9_000) ≡ false)  -- rule 5.8: one arrival
+unfolding qualifiedOf
+records-qualified = (refl, refl, refl, refl, refl)
+
+-- ---- the servo, fresh, with Kp 700 and Ki 300: the offset, the exponent k, and the limit of 100,000 ppb in units
+abbrev integral : ℤ → ℕ → ℤ
+integral offset k = integralWith (freshServo 700 300) offset k 12_800_000_000
+
+abbrev output : ℤ → ℤ
+output offset = outputWith (freshServo 700 300) offset 0 12_800_000_000
+
+pub integrals-held : (integral (pos 1) 0 ≡ pos 38_400)  -- rule 8.2
+    × (integral (pos 1) 7 ≡ pos 300)  -- rule 8.2
+    × (integral (pos 333_333) 0 ≡ pos 12_799_987_200)  -- rule 8.2
+    × (integral (pos 333_334) 0 ≡ pos 12_800_000_000)  -- rule 8.2: held
+    × (integral (minus 333_333) 0 ≡ minus 12_799_987_200)  -- rule 8.2
+    × (integral (minus 333_334) 0 ≡ minus 12_800_000_000)  -- rule 8.2: held
+unfolding integralWith
+integrals-held = (refl, refl, refl, refl, refl, refl)
+
+pub outputs-held : (output (pos 99_999) ≡ pos 99_999)  -- rule 8.3
+    × (output (pos 100_000) ≡ pos 100_000)  -- rule 8.3
+    × (output (pos 100_001) ≡ pos 100_000)  -- rule 8.3: held
+    × (output (minus 99_999) ≡ minus 99_999)  -- rule 8.3
+    × (output (minus 100_000) ≡ minus 100_000)  -- rule 8.3
+    × (output (minus 100_001) ≡ minus 100_000)  -- rule 8.3: held
+unfolding outputWith integralWith roundedOf
+outputs-held = (refl, refl, refl, refl, refl, refl)
+
+-- ---- what is shown, and the swing
+pub holdover-shown : (isHoldover true 5_000 15_000 ≡ false)  -- rule 6.2
+    × (isHoldover true 5_000 15_001 ≡ true)  -- rule 6.2
+    × (isHoldover false 5_000 15_001 ≡ false)  -- rule 6.2: nothing measured since the wipe
+holdover-shown = (refl, refl, refl)
+
+abbrev ten : ℤ → ℤ → ℤ → ℤ → ℤ → ℤ → ℤ → ℤ → ℤ → ℤ → List ℤ
+ten a b c d e f g h i j = a ∷ b ∷ c ∷ d ∷ e ∷ f ∷ g ∷ h ∷ i ∷ j ∷ []
+
+abbrev all-of : ℤ → List ℤ
+all-of x = ten x x x x x x x x x x
+
+pub tracking-shown : (isTracking (all-of (pos 99)) ≡ true)  -- rule 6.3
+    × (isTracking (all-of (pos 100)) ≡ false)  -- rule 6.3
+    × (isTracking (all-of (minus 99)) ≡ true)  -- rule 6.3
+    × (isTracking (all-of (minus 100)) ≡ false)  -- rule 6.3
+    × (isTracking (ten (pos 10) (minus 10) (pos 10) (minus 10) (pos 7) (minus 7) (pos 0) (pos 0) (pos 0) (pos 0)) ≡ true)  -- rule 6.3: 10 x 498 - 0
+    × (isTracking (ten (pos 10) (minus 10) (pos 10) (minus 10) (pos 5) (minus 5) (pos 5) (minus 5) (pos 0) (pos 0)) ≡ false)  -- rule 6.3: 10 x 500 - 0
+    × (isTracking (pos 0 ∷ pos 0 ∷ pos 0 ∷ pos 0 ∷ pos 0 ∷ pos 0 ∷ pos 0 ∷ pos 0 ∷ pos 0 ∷ []) ≡ false)  -- rule 6.3: nine
+unfolding isTracking near sum squares
+tracking-shown = (refl, refl, refl, refl, refl, refl, refl)
+
+pub swings-counted : (swingsOf (ten (pos 1) (minus 1) (pos 1) (minus 1) (pos 1) (minus 1) (pos 1) (pos 1) (pos 1) (pos 1)) ≡ true)  -- rule 8.6: six
+    × (swingsOf (ten (pos 1) (minus 1) (pos 1) (minus 1) (pos 1) (minus 1) (minus 1) (minus 1) (minus 1) (minus 1)) ≡ false)  -- rule 8.6: five
+    × (swingsOf (ten (pos 1) (minus 1) (pos 1) (minus 1) (pos 1) (minus 1) (pos 0) (pos 1) (pos 1) (pos 1)) ≡ false)  -- rule 8.6: a zero has no sign
+unfolding oppositesIn
+swings-counted = (refl, refl, refl)
+
+pub gains-halved : (halfGain 701 ≡ 350)  -- rule 8.7
+    × (halfGain 2 ≡ 1)  -- rule 8.7
+    × (halfGain 1 ≡ 1)  -- rule 8.7
+gains-halved = (refl, refl, refl)
+
+-- ---- a second pulse, with the settings of the bench (rule 4.14): spikes beyond 1 ms, jumps beyond 2 ms, a reference interval off by 2 ms at most
+pub ticks-refused : (outsideOf (minus 1) ≡ true)  -- rule 3.20
+    × (outsideOf (pos 0) ≡ false)  -- rule 3.20
+    × (outsideOf (pos 4_611_686_018_427_387_903) ≡ false)  -- rule 3.20: 2^62 - 1
+    × (outsideOf (pos 4_611_686_018_427_387_904) ≡ true)  -- rule 3.20
+ticks-refused = (refl, refl, refl, refl)
+
+-- the sample before has the reference of 5 s and the first y; then come the reference and the y of this one
+abbrev judgedAfter : ℤ → ℕ → ℤ → Outcome
+judgedAfter before reference y = followed bench (pos 0) (record { reference = pos 5_000_000_000; y = before; valid = true }) (pos reference) y
+
+abbrev valid : ℕ → ℤ → Outcome
+valid reference y = Take (pos 0) (record { reference = pos reference; y = y; valid = true })
+
+abbrev invalid : ℕ → ℤ → Outcome
+invalid reference y = Take (pos 0) (record { reference = pos reference; y = y; valid = false })
+
+pub pulses-judged : (judgedAfter (pos 0) 5_000_000_000 (pos 0) ≡ Wipe Back)  -- rule 9.4
+    × (judgedAfter (pos 0) 5_000_000_001 (pos 0) ≡ invalid 5_000_000_001 (pos 0))  -- rule 9.4
+    × (judgedAfter (pos 999_999_000) 6_000_000_000 (pos 999_999_999) ≡ valid 6_000_000_000 (pos 999_999_999))  -- rule 9.5
+    × (judgedAfter (pos 999_999_000) 6_000_000_000 (pos 1_000_000_000) ≡ Wipe Range)  -- rule 9.5
+    × (judgedAfter (minus 999_999_000) 6_000_000_000 (minus 999_999_999) ≡ valid 6_000_000_000 (minus 999_999_999))  -- rule 9.5
+    × (judgedAfter (minus 999_999_000) 6_000_000_000 (minus 1_000_000_000) ≡ Wipe Range)  -- rule 9.5
+    × (judgedAfter (pos 500) 6_000_000_000 (pos 2_000_500) ≡ invalid 6_000_000_000 (pos 2_000_500))  -- rule 9.6
+    × (judgedAfter (pos 500) 6_000_000_000 (pos 2_000_501) ≡ Wipe Jump)  -- rule 9.6
+    × (judgedAfter (pos 500) 6_000_000_000 (minus 1_999_500) ≡ invalid 6_000_000_000 (minus 1_999_500))  -- rule 9.6
+    × (judgedAfter (pos 500) 6_000_000_000 (minus 1_999_501) ≡ Wipe Jump)  -- rule 9.6
+    × (judgedAfter (pos 500) 6_000_000_000 (pos 1_000_500) ≡ valid 6_000_000_000 (pos 1_000_500))  -- rule 9.9: the spike
+    × (judgedAfter (pos 500) 6_000_000_000 (pos 1_000_501) ≡ invalid 6_000_000_000 (pos 1_000_501))  -- rule 9.9
+    × (judgedAfter (pos 500) 6_000_000_000 (minus 999_500) ≡ valid 6_000_000_000 (minus 999_500))  -- rule 9.9
+    × (judgedAfter (pos 500) 6_000_000_000 (minus 999_501) ≡ invalid 6_000_000_000 (minus 999_501))  -- rule 9.9
+    × (judgedAfter (pos 0) 6_002_000_000 (pos 0) ≡ valid 6_002_000_000 (pos 0))  -- rule 9.9: the tolerance
+    × (judgedAfter (pos 0) 6_002_000_001 (pos 0) ≡ invalid 6_002_000_001 (pos 0))  -- rule 9.9
+    × (judgedAfter (pos 0) 5_998_000_000 (pos 0) ≡ valid 5_998_000_000 (pos 0))  -- rule 9.9
+    × (judgedAfter (pos 0) 5_997_999_999 (pos 0) ≡ invalid 5_997_999_999 (pos 0))  -- rule 9.9
+pulses-judged = (refl, refl, refl, refl, refl, refl, refl, refl, refl, refl, refl, refl, refl, refl, refl, refl, refl, refl)
+
+pub first-taken : inside bench freshSince (pos 5_000_000_000) (pos 9_000_000_000)
+    ≡ Take (pos 4_000_000_000) (record { reference = pos 5_000_000_000; y = pos 0; valid = true })  -- rules 9.2 and 9.3
+unfolding onLast
+first-taken = refl

@@ -14,8 +14,8 @@ use Rattle.numbers.specs.declared.ruling.Ruling.{Ruling}
 use Rattle.numbers.specs.declared.ruling.Ruling.the-variants.{Clear, Barred}
 use Rattle.rules_masters.specs.Records.{intervalOf}
 use Rattle.numbers.specs.Grounds.{firstOf}
-use Rattle.rules_masters.specs.Holding.{chosenAt, sameMasterOf}
-use Rattle.rules_masters.specs.Admitting.{groundsOf, isKnown, acceptedOf, admittedBy, admittedOf}
+use Rattle.rules_masters.specs.Holding.{chosenAt, decisionOf, wipesOf}
+use Rattle.rules_masters.specs.Admitting.{groundsOf, isKnown, standingsIn, acceptedOf, admittedBy, admittedOf}
 use Rattle.rules_watch.specs.Watch.{sinceOf}
 use Rattle.unit_core.specs.declared.calls.Call.{Call}
 use Rattle.unit_core.specs.declared.calls.Call.the-variants.{Receive, Request, Sent, Time, Reset, Tick, Line, Show}
@@ -42,14 +42,14 @@ module _ (c : Unit) where
   -- ---- the table: an Announce that is refused does not change it
   not-chosen : (t : Table) (now : ℕ) → Refused (chooses (c .core .settings) (staysOf (c .core)) (progressOf (c .core) (c .servo)) t now) → ⊥
   unfolding chooses
-  not-chosen t now = byTest (λ e. Refused e → ⊥) (sameMasterOf (c .core .domain .chosen) (chosenAt (t .records) now (c .core .settings .announce))) never never
+  not-chosen t now = byTest (λ e. Refused e → ⊥) (wipesOf (decisionOf (c .core .domain .chosen) (chosenAt (t .records) now (c .core .settings .announce)))) never never
 
   abbrev ends : ℕ → Admitted → Effect
   ends now a = admits (c .core .settings) (staysOf (c .core)) (progressOf (c .core) (c .servo)) (a .table) now (a .answer)
 
   not-accepted : (m : Announce) (interval now : ℕ) → Refused (ends now (acceptedOf (c .table .records) m interval now)) → ⊥
   unfolding acceptedOf
-  not-accepted m interval now = byTest (λ (a : Admitted). Refused (ends now a) → ⊥) (isKnown (c .table .records) m interval now) (not-chosen _ now) (not-chosen _ now)
+  not-accepted m interval now = byTest (λ (a : Admitted). Refused (ends now a) → ⊥) (isKnown (standingsIn (c .table .records) m interval now)) (not-chosen _ now) (not-chosen _ now)
 
   by-verdict : (m : Announce) (interval now : ℕ) (v : Ruling) → Refused (ends now (admittedBy v (c .table) (acceptedOf (c .table .records) m interval now)))
       → admittedBy v (c .table) (acceptedOf (c .table .records) m interval now) .table ≡ c .table

@@ -60,9 +60,9 @@ same-seats : (call : Call) {s t : Settings} {k m : Stays} {a b : Table} → s �
 same-seats call u v w = rw (u, v, w)
 
 module _ {s : Settings} {p : Past} {c : Unit} (t : Tells s p c) where
-  pub same-effect : s .watch .holdoff ≤ 10 → (call : Call) → unitEffect c call ≡ effectAfter s p call
-  same-effect h call =
-      same-stands call _ (t .settings) (t .stays) (t .progress) (t .table) (t .count) (rw (t .settings) (good-line (t .watch) h))
+  pub same-effect : (call : Call) → unitEffect c call ≡ effectAfter s p call
+  same-effect call =
+      same-stands call _ (t .settings) (t .stays) (t .progress) (t .table) (t .count) (rw (t .settings) (good-line (t .watch)))
       ∙ same-pulse call s (p .stays) (p .progress) (p .table) (p .count % 2 ^ 32) (lineSince (s .watch) (p .since)) _ _
       (λ a b. rw (t .settings) (same-outcome (t .watch) a b))
 
@@ -129,28 +129,28 @@ module _ {s : Settings} {p : Past} {c : Unit} (t : Tells s p c) where
   call-told Show x = fairly-told Show x (fair Show)
 
   -- one call more
-  pub step-told : s .watch .holdoff ≤ 10 → (call : Call) → Tells s (pastAfter s p call) (stepOf c call .unit)
-  step-told h call = rw (same-effect t h call, same-table t call) (call-told call (tableAfter s (p .stays) (p .table) call))
+  pub step-told : (call : Call) → Tells s (pastAfter s p call) (stepOf c call .unit)
+  step-told call = rw (same-effect t call, same-table t call) (call-told call (tableAfter s (p .stays) (p .table) call))
 
-  pub step-answers : s .watch .holdoff ≤ 10 → (call : Call) → stepOf c call .answer ≡ effectAnswer (effectAfter s p call)
-  step-answers h call = rw (same-effect t h call) (same-answer c (unitTable c call) (effectAfter s p call))
+  pub step-answers : (call : Call) → stepOf c call .answer ≡ effectAnswer (effectAfter s p call)
+  step-answers call = rw (same-effect t call) (same-answer c (unitTable c call) (effectAfter s p call))
 
 -- ---- any list of calls, the oldest first
 unfoldable pub played : Unit → List Call → Unit
 played c [] = c
 played c (call ∷ l) = played (stepOf c call .unit) l
 
-module _ (s : Settings) (h : s .watch .holdoff ≤ 10) where
+module _ (s : Settings) where
   play-told : (before : List Call) (c : Unit) → Tells s (past s before) c → (l : List Call) → Tells s (past s (reverseAux l before)) (played c l)
   unfolding played past
   play-told before c t [] = t
-  play-told before c t (call ∷ l) = play-told (call ∷ before) (stepOf c call .unit) (step-told t h call) l
+  play-told before c t (call ∷ l) = play-told (call ∷ before) (stepOf c call .unit) (step-told t call) l
 
-  -- from a fresh card
+  -- from a fresh unit
   pub all-told : (calls : List Call) → Tells s (past s (reverse calls)) (played (freshUnit s) calls)
   unfolding past
   all-told calls = play-told [] (freshUnit s) (start-told s) calls
 
   pub all-answers : (calls : List Call) (call : Call) → stepOf (played (freshUnit s) calls) call .answer ≡ answerAfter s (reverse calls) call
   unfolding answerAfter
-  all-answers calls call = step-answers (all-told calls) h call
+  all-answers calls call = step-answers (all-told calls) call

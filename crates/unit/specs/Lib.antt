@@ -1,3 +1,4 @@
 pub mod Receiving
 pub mod Calls
+pub mod Handing
 pub mod Machine

@@ -1,4 +1,6 @@
 // The unit whole: its core with its servo, its table of masters and its watch. One step for each call.
+pub mod handing;
+
 ghost use mathlib.Core.Path.{_≡_};
 ghost use lib.ListN.{length};
 ghost use Rattle.unit_measuring.specs.Frame.{frameAfter};
@@ -15,6 +17,7 @@ use unit_core::Core;
 use unit_core::Moved;
 use unit_core::calls::Answer;
 use unit_core::calls::Call;
+use unit_core::run::Fresh;
 use unit_measuring::asking::request;
 use unit_measuring::asking::sent;
 use unit_measuring::frame;
@@ -41,9 +44,11 @@ impl Unit {
     pub fn fresh(settings: Settings) -> Unit
         ensures { λ r. ⌜ r ≡ freshUnit settings ⌝ }
     {
+        let fresh = Fresh::with(settings.kp, settings.ki);
+        let servo = fresh.servo;
         Unit {
             core: Core::fresh(settings),
-            servo: Servo::fresh(settings.kp, settings.ki),
+            servo,
             table: Table::fresh(),
             watch: Watch::fresh(),
         }

@@ -1,13 +1,15 @@
 // The calls that make the choice anew: an Announce, and the bare time call.
 ghost use mathlib.Core.Path.{_≡_};
+ghost use Rattle.numbers.specs.Grounds.{firstOf};
+ghost use Rattle.numbers.specs.Orders.{ofTime};
 ghost use Rattle.unit_core.specs.Effects.{staysOf, progressOf, movedBy};
-ghost use Rattle.unit_choosing.specs.Choosing.{admission, holds, admits, announces, timePasses};
+ghost use Rattle.unit_choosing.specs.Choosing.{timeDue, admission, holds, admits, announces, timePasses};
 use numbers::refusal::Refusal;
+use numbers::ruling::Ruling;
 use rules_masters::admission;
 use rules_masters::admission::admit;
 use rules_masters::choice::chosen_at;
 use rules_masters::chosen::Chosen;
-use rules_masters::chosen::Decision;
 use rules_masters::record::Announce;
 use rules_masters::table::Table;
 use rules_servo::Servo;
@@ -30,10 +32,11 @@ fn hold(mut core: Core, servo: Servo, chosen: Chosen, now: u64) -> Moved
     domain.chosen = chosen;
     core.now = now;
     core.domain = domain;
-    if before.same_master(chosen) {
-        return core.keep(servo, Answer::Choice(Decision::Same(chosen)));
+    let decision = before.decide(chosen);
+    if decision.wipes() {
+        return core.wipe(now, Answer::Choice(decision));
     }
-    core.wipe(now, Answer::Choice(Decision::Changed(chosen)))
+    core.keep(servo, Answer::Choice(decision))
 }
 
 // The table has answered; this is the table after it.
@@ -74,17 +77,27 @@ pub fn announce(core: Core, servo: Servo, table: Table, now: u64, m: Announce) -
     }
 }
 
-// The bare time call is refused only by NOW.
+// What bars the bare time call: NOW alone. `last` is the unit's now.
+pub fn time_barred(last: u64, now: u64) -> Ruling
+    ensures { λ r. ⌜ r ≡ firstOf (ofTime (timeDue last now)) ⌝ }
+{
+    if now < last {
+        return Ruling::Barred(Refusal::Now);
+    }
+    Ruling::Clear
+}
+
+// The bare time call.
 pub fn time(core: Core, servo: Servo, table: Table, now: u64) -> Moved
     ensures { λ r. ⌜ r ≡ movedBy core servo (timePasses (core .settings) (staysOf core) (progressOf core servo) table now) ⌝ }
 {
-    if now < core.now {
-        return core.refuse(servo, Refusal::Now);
+    match time_barred(core.now, now) {
+        Ruling::Barred(number) => core.refuse(servo, number),
+        Ruling::Clear => hold(
+            core,
+            servo,
+            chosen_at(table, now, core.settings.announce),
+            now,
+        ),
     }
-    hold(
-        core,
-        servo,
-        chosen_at(table, now, core.settings.announce),
-        now,
-    )
 }

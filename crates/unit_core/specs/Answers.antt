@@ -1,6 +1,6 @@
 -- What an answer says of the call: whether it was refused, and whether the unit was wiped.
 use mathlib.Core.Bool.{Bool, true, false}
-use Rattle.rules_masters.specs.declared.chosen.Decision.the-variants.{Same, Changed}
+use Rattle.rules_masters.specs.Holding.{wipesOf as choiceWipes}
 use Rattle.rules_exchange.specs.Said.{wipesOf as saidWipes}
 use Rattle.rules_watch.specs.Rules.{wipesOf as pulseWipes}
 use Rattle.unit_core.specs.declared.calls.Answer.{Answer}
@@ -19,8 +19,7 @@ isRefusal (Shows shown) = false
 -- the operator's reset
 abbrev pub wipesOf : Answer → Bool
 wipesOf (Refused n) = false
-wipesOf (Choice (Same c)) = false
-wipesOf (Choice (Changed c)) = true
+wipesOf (Choice d) = choiceWipes d
 wipesOf (Exchange said output) = saidWipes said
 wipesOf (Watch p) = pulseWipes p
 wipesOf Wiped = true

@@ -7,6 +7,7 @@ use Rattle.rules_servo.specs.declared.Servo.{Servo}
 use Rattle.rules_servo.specs.Steps.{freshServo}
 use Rattle.rules_settings.specs.declared.Settings.{Settings}
 use Rattle.unit_core.specs.declared.run.Run.{Run}
+use Rattle.unit_core.specs.declared.run.Fresh.{Fresh}
 use Rattle.unit_core.specs.declared.Domain.{Domain}
 use Rattle.unit_core.specs.declared.Core.{Core}
 
@@ -14,7 +15,10 @@ use Rattle.unit_core.specs.declared.Core.{Core}
 abbrev pub freshRun : Run
 freshRun = record { exchange = freshExchange; measured = false; at = 0 }
 
--- .. the servo; the window is the watch's
+-- .. and the servo; the window is the watch's
+abbrev pub freshWith : (kp ki : ℕ) → Fresh
+freshWith kp ki = record { run = freshRun; servo = freshServo kp ki }
+
 abbrev pub restoredServo : Settings → Servo
 restoredServo s = freshServo (s .kp) (s .ki)
 

@@ -4,14 +4,16 @@ pub mod run;
 pub mod showing;
 
 ghost use mathlib.Core.Path.{_≡_};
-ghost use Rattle.unit_core.specs.Wipe.{freshDomain, freshCore};
+ghost use Rattle.unit_core.specs.Wipe.{freshCore};
 ghost use Rattle.unit_core.specs.Effects.{staysOf, withNow, unlocked, keptCore, wipedCore};
 use calls::Answer;
 use numbers::refusal::Refusal;
 use rules_masters::chosen::Chosen;
 use rules_servo::Servo;
 use rules_settings::Settings;
+use run::Fresh;
 use run::Run;
+use run::one_more;
 
 // What belongs to one domain.
 #[repr(C)]
@@ -38,28 +40,23 @@ pub struct Moved {
     pub servo: Servo,
 }
 
-impl Domain {
-    fn fresh() -> Domain
-        ensures { λ r. ⌜ r ≡ freshDomain ⌝ }
-    {
-        Domain {
-            chosen: Chosen::fresh(),
-            run: Run::fresh(),
-            wipes: 0,
-            faulty: false,
-            sequence: 0,
-        }
-    }
-}
-
 impl Core {
     pub fn fresh(settings: Settings) -> Core
         ensures { λ r. ⌜ r ≡ freshCore settings ⌝ }
     {
+        let fresh = Fresh::with(settings.kp, settings.ki);
+        let run = fresh.run;
+        let domain = Domain {
+            chosen: Chosen::fresh(),
+            run,
+            wipes: 0,
+            faulty: false,
+            sequence: 0,
+        };
         Core {
             settings,
             now: 0,
-            domain: Domain::fresh(),
+            domain,
         }
     }
 
@@ -82,18 +79,18 @@ impl Core {
         }
     }
 
-    // The wipe, for every cause: run and servo are made fresh here and nowhere else, and the count goes up by one. Chosen master, now, own
-    // sequenceId and FAULTY remain.
+    // The wipe, for every cause: run and servo are as fresh, and the count goes up by one. Chosen master, now, own sequenceId and FAULTY remain.
     pub fn wipe(mut self, now: u64, answer: Answer) -> Moved
         ensures { λ r. ⌜ r ≡ wipedCore self answer (withNow now (staysOf self)) ⌝ }
     {
         let mut domain = self.domain;
-        let run = Run::fresh();
+        let fresh = Fresh::with(self.settings.kp, self.settings.ki);
+        let run = fresh.run;
+        let servo = fresh.servo;
         domain.run = run;
-        domain.wipes = ((domain.wipes as u64 + 1) % 4_294_967_296) as u32;
+        domain.wipes = one_more(domain.wipes);
         self.now = now;
         self.domain = domain;
-        let servo = Servo::fresh(self.settings.kp, self.settings.ki);
         Moved {
             answer,
             wipes: true,

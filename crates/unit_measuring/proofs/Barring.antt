@@ -8,8 +8,8 @@ use Rattle.numbers.specs.declared.stamp.Stamp.{Stamp}
 use Rattle.numbers.specs.declared.ruling.Ruling.{Ruling}
 use Rattle.numbers.specs.declared.ruling.Ruling.the-variants.{Clear, Barred}
 use Rattle.numbers.specs.declared.refusal.Refusal.the-variants.{Kind, Field, Now, Faulty, Domain, NotMaster, Correction, Unmatched, Room}
-use Rattle.numbers.specs.Grounds.{Ground, Due, gives, firstOf, noneDue, dueWith}
-use Rattle.numbers.specs.Orders.{ofExchange}
+use Rattle.numbers.specs.Grounds.{Ground, gives, firstOf}
+use Rattle.numbers.specs.Orders.{Due, noneDue, dueWith, ofExchange}
 use Rattle.numbers.proofs.Grounds.{orElse, bars}
 use Rattle.wire_layout.specs.declared.message.Header.{Header}
 use Rattle.wire_layout.specs.declared.message.Body.{Body}
@@ -17,12 +17,12 @@ use Rattle.wire_layout.specs.declared.message.Body.the-variants.{Sync, DelayReq
 use Rattle.rules_exchange.specs.declared.Exchange.{Exchange}
 use Rattle.rules_exchange.specs.declared.Answered.{Answered}
 use Rattle.rules_exchange.specs.Table.{Event, sync, followUp, delayResp}
-use Rattle.rules_exchange.specs.Events.{fieldOf, correctionIn, unmatchedOf, exchangeDue, groundsOf, tellsOf, unlessBarred, told}
+use Rattle.rules_exchange.specs.Events.{correctionIn, unmatchedOf, exchangeDue, groundsOf, tellsOf, unlessBarred, told}
 use Rattle.rules_settings.specs.declared.Settings.{Settings}
 use Rattle.unit_core.specs.Effects.{Stays, Progress, unless, withNow}
 use Rattle.unit_measuring.specs.Measuring.{exchanges}
 use Rattle.unit_measuring.specs.Hearing.{twoStepIn, hears}
-use Rattle.unit_measuring.specs.Barring.{callDue, fromElsewhere, fromAnother, messageDue, ownDue}
+use Rattle.unit_measuring.specs.Barring.{callDue, fieldIn, fromElsewhere, fromAnother, messageDue, ownDue}
 use Rattle.unit_measuring.specs.Inner.{messageGrounds, handed}
 
 -- the eight, each by its truth value
@@ -78,8 +78,8 @@ module _ (s : Settings) (k : Stays) (r : Progress) (x : Exchange) (e : Event) wh
 pub heard-by : (s : Settings) (k : Stays) (r : Progress) (now : ℕ) (t2 : Stamp) (h : Header) (b : Body)
     → unless (firstOf (messageGrounds s k now t2 h b)) (exchanges s (withNow now k) r (handed (r .exchange) (s .own) t2 h b)) ≡ hears s k r now t2 h b
 unfolding hears
-heard-by s k r now t2 h (Sync t1) = sym (unless-told s (withNow now k) r (r .exchange) (sync (twoStepIn h) (h .sequence) (h .correction) t1 t2) (messageDue s k now h (fieldOf t2)) refl refl refl)
+heard-by s k r now t2 h (Sync t1) = sym (unless-told s (withNow now k) r (r .exchange) (sync (twoStepIn h) (h .sequence) (h .correction) t1 t2) (messageDue s k now h (fieldIn t2 (Sync t1))) refl refl refl)
 heard-by s k r now t2 h (DelayReq t) = ap (λ (v : Ruling). unless v (exchanges s (withNow now k) r (handed (r .exchange) (s .own) t2 h (DelayReq t)))) (bars (gives Kind true) [] refl)
-heard-by s k r now t2 h (FollowUp t1) = sym (unless-told s (withNow now k) r (r .exchange) (followUp (h .sequence) (h .correction) t1) (messageDue s k now h false) refl refl refl)
-heard-by s k r now t2 h (DelayResp t4 p) = sym (unless-told s (withNow now k) r (r .exchange) (delayResp (h .sequence) (h .correction) t4 p (s .own)) (messageDue s k now h false) refl refl refl)
+heard-by s k r now t2 h (FollowUp t1) = sym (unless-told s (withNow now k) r (r .exchange) (followUp (h .sequence) (h .correction) t1) (messageDue s k now h (fieldIn t2 (FollowUp t1))) refl refl refl)
+heard-by s k r now t2 h (DelayResp t4 p) = sym (unless-told s (withNow now k) r (r .exchange) (delayResp (h .sequence) (h .correction) t4 p (s .own)) (messageDue s k now h (fieldIn t2 (DelayResp t4 p))) refl refl refl)
 heard-by s k r now t2 h (Announce t o) = ap (λ (v : Ruling). unless v (exchanges s (withNow now k) r (handed (r .exchange) (s .own) t2 h (Announce t o)))) (bars (gives Kind true) [] refl)

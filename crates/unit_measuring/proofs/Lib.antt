@@ -1,4 +1,5 @@
 -- What is proved of the calls of the exchange.
 pub mod Barring
 pub mod Unheard
-mod Room
+pub mod Stamps
+pub mod Room

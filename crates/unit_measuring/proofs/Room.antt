@@ -9,8 +9,8 @@ use lib.Dec.{ltb}
 use Rattle.numbers.specs.declared.refusal.Refusal.the-variants.{Room}
 use Rattle.numbers.specs.declared.ruling.Ruling.{Ruling}
 use Rattle.numbers.specs.declared.ruling.Ruling.the-variants.{Clear, Barred}
-use Rattle.numbers.specs.Grounds.{firstOf, dueWith}
-use Rattle.numbers.specs.Orders.{ofExchange}
+use Rattle.numbers.specs.Grounds.{firstOf}
+use Rattle.numbers.specs.Orders.{dueWith, ofExchange}
 use Rattle.numbers.proofs.Grounds.{orElse}
 use Rattle.unit_core.specs.Effects.{Stays}
 use Rattle.unit_measuring.specs.Asking.{narrow}

@@ -5,8 +5,8 @@ use mathlib.Core.List.{List}
 use lib.Dec.{ltb}
 use Rattle.numbers.specs.declared.stamp.Stamp.{Stamp}
 use Rattle.numbers.specs.declared.refusal.Refusal.the-variants.{Room}
-use Rattle.numbers.specs.Grounds.{Ground, Due, firstOf, dueWith}
-use Rattle.numbers.specs.Orders.{ofExchange}
+use Rattle.numbers.specs.Grounds.{Ground, firstOf}
+use Rattle.numbers.specs.Orders.{Due, dueWith, ofExchange}
 use Rattle.rules_exchange.specs.Table.{requested, sent}
 use Rattle.rules_exchange.specs.Events.{fieldOf, exchangeDue, tellsOf}
 use Rattle.rules_settings.specs.declared.Settings.{Settings}

@@ -1,6 +1,6 @@
 -- What only inner contracts cite: nobody needs to believe it.
 use Prim.Native.Nat.{ℕ}
-use mathlib.Core.Bool.{true, false}
+use mathlib.Core.Bool.{true}
 use mathlib.Core.List.{List, [], _∷_}
 use Rattle.numbers.specs.declared.refusal.Refusal.the-variants.{Kind}
 use Rattle.numbers.specs.declared.stamp.Stamp.{Stamp}
@@ -14,18 +14,18 @@ use Rattle.rules_exchange.specs.declared.Exchange.{Exchange}
 use Rattle.rules_exchange.specs.declared.Answer.the-variants.{Refused}
 use Rattle.rules_exchange.specs.declared.Answered.{Answered}
 use Rattle.rules_exchange.specs.Table.{sync, followUp, delayResp}
-use Rattle.rules_exchange.specs.Events.{fieldOf, told}
+use Rattle.rules_exchange.specs.Events.{told}
 use Rattle.rules_settings.specs.declared.Settings.{Settings}
 use Rattle.unit_core.specs.Effects.{Stays}
 use Rattle.unit_measuring.specs.Hearing.{twoStepIn}
-use Rattle.unit_measuring.specs.Barring.{messageDue}
+use Rattle.unit_measuring.specs.Barring.{fieldIn, messageDue}
 
 -- of a message's refusals those that are asked before the exchange's own
 abbrev pub messageGrounds : Settings → Stays → ℕ → Stamp → Header → Body → List Ground
-messageGrounds s k now t2 h (Sync t1) = ofExchange (messageDue s k now h (fieldOf t2))
+messageGrounds s k now t2 h (Sync t1) = ofExchange (messageDue s k now h (fieldIn t2 (Sync t1)))
 messageGrounds s k now t2 h (DelayReq t) = gives Kind true ∷ []
-messageGrounds s k now t2 h (FollowUp t1) = ofExchange (messageDue s k now h false)
-messageGrounds s k now t2 h (DelayResp t4 requester) = ofExchange (messageDue s k now h false)
+messageGrounds s k now t2 h (FollowUp t1) = ofExchange (messageDue s k now h (fieldIn t2 (FollowUp t1)))
+messageGrounds s k now t2 h (DelayResp t4 requester) = ofExchange (messageDue s k now h (fieldIn t2 (DelayResp t4 requester)))
 messageGrounds s k now t2 h (Announce t offer) = gives Kind true ∷ []
 
 -- what the exchange answers to a message: the other two kinds are barred above

@@ -1,8 +1,10 @@
 // A received message other than an Announce: what bars it, and what the exchange is told.
 ghost use mathlib.Core.Path.{_≡_};
+ghost use mathlib.Core.Bool.{_||_};
 ghost use Rattle.numbers.specs.Grounds.{firstOf};
 ghost use Rattle.unit_core.specs.Effects.{staysOf, progressOf, movedBy};
 ghost use Rattle.numbers.specs.Orders.{ofExchange};
+ghost use Rattle.rules_exchange.specs.Events.{fieldOf};
 ghost use Rattle.unit_measuring.specs.Barring.{messageDue};
 ghost use Rattle.unit_measuring.specs.Hearing.{twoStepIn, hears};
 ghost use Rattle.unit_measuring.specs.Inner.{messageGrounds, handed};
@@ -69,14 +71,26 @@ fn from_master(core: Core, now: u64, field: bool, header: Header) -> Ruling
     }
 }
 
-// 3 of a kind that is not heard, before all else; then those that come before the exchange's own. Only a Sync has a t2.
+// FIELD of a Sync's two stamps.
+fn either_field(t1: Stamp, t2: Stamp) -> bool
+    ensures { λ r. ⌜ r ≡ (fieldOf t1 || fieldOf t2) ⌝ }
+{
+    if refusals::field(t1) {
+        true
+    } else {
+        refusals::field(t2)
+    }
+}
+
+// 3 of a kind that is not heard, before all else; then those that come before the exchange's own. FIELD is asked of the message's own stamp too: whoever
+// hands over a struct has not had it read.
 pub fn message_barred(core: Core, now: u64, t2: Stamp, header: Header, body: Body) -> Ruling
     ensures { λ r. ⌜ r ≡ firstOf (messageGrounds (core .settings) (staysOf core) now t2 header body) ⌝ }
 {
     match body {
-        Body::Sync(_) => from_master(core, now, refusals::field(t2), header),
-        Body::FollowUp(_) => from_master(core, now, false, header),
-        Body::DelayResp(_, _) => from_master(core, now, false, header),
+        Body::Sync(t1) => from_master(core, now, either_field(t1, t2), header),
+        Body::FollowUp(t1) => from_master(core, now, refusals::field(t1), header),
+        Body::DelayResp(t4, _) => from_master(core, now, refusals::field(t4), header),
         _ => Ruling::Barred(Refusal::Kind),
     }
 }

@@ -1,5 +1,6 @@
 // Reading: the octets of a message, behind the Ethernet header, become the message, or the refusal that says why not.
 use numbers::refusal::Refusal;
+use numbers::ruling::Ruling;
 use numbers::stamp::Stamp;
 use numbers::stamp::sound;
 use wire_layout::kinds;
@@ -21,11 +22,13 @@ use wire_octets::u64_at;
 ghost use mathlib.Core.Path.{_≡_};
 ghost use Prim.Native.Nat.{_+_, _≤_, _<_};
 ghost use lib.ListN.{length};
+ghost use Rattle.numbers.specs.Grounds.{firstOf};
 ghost use Rattle.wire_layout.specs.Kinds.{fixedLengthOf};
 ghost use Rattle.wire_layout.specs.Positions.{portAt, headerOf, stampAt, offerOf, bodyOf};
-ghost use Rattle.wire_layout.specs.Reading.{readOf};
+ghost use Rattle.wire_layout.specs.Reading.{readingGrounds, readOf};
 
-fn port_at(s: &[u8], at: usize) -> Port
+// Fields where they lie. Each asks that its octets are there.
+pub fn port_at(s: &[u8], at: usize) -> Port
     requires { ⌜ at + 10 ≤ length (now s) ⌝ }
     ensures { λ r. ⌜ r ≡ portAt at (now (s .entry)) ⌝ }
 {
@@ -35,7 +38,7 @@ fn port_at(s: &[u8], at: usize) -> Port
     }
 }
 
-fn header_of(s: &[u8]) -> Header
+pub fn header_of(s: &[u8]) -> Header
     requires { ⌜ 34 ≤ length (now s) ⌝ }
     ensures { λ r. ⌜ r ≡ headerOf (now (s .entry)) ⌝ }
 {
@@ -57,7 +60,7 @@ fn header_of(s: &[u8]) -> Header
     }
 }
 
-fn stamp_at(s: &[u8], at: usize) -> Stamp
+pub fn stamp_at(s: &[u8], at: usize) -> Stamp
     requires { ⌜ at + 10 ≤ length (now s) ⌝ }
     ensures { λ r. ⌜ r ≡ stampAt at (now (s .entry)) ⌝ }
 {
@@ -67,7 +70,7 @@ fn stamp_at(s: &[u8], at: usize) -> Stamp
     }
 }
 
-fn offer_of(s: &[u8]) -> Offer
+pub fn offer_of(s: &[u8]) -> Offer
     requires { ⌜ 64 ≤ length (now s) ⌝ }
     ensures { λ r. ⌜ r ≡ offerOf (now (s .entry)) ⌝ }
 {
@@ -100,45 +103,55 @@ fn body_of(s: &[u8], kind: u8) -> Body
     }
 }
 
-// The message with every field and where its suffix lies, or the first refusal that holds. Octets past messageLength are padding.
-// The suffix is walked before a field is read, so that no field has to be kept meanwhile (docs/COST.md).
-pub fn read(s: &[u8]) -> Read
-    ensures { λ r. ⌜ r ≡ readOf (now (s .entry)) ⌝ }
+// What bars the reading: the first refusal that is due. Octets past messageLength are padding.
+pub fn barred(s: &[u8]) -> Ruling
+    ensures { λ r. ⌜ r ≡ firstOf (readingGrounds (now (s .entry))) ⌝ }
 {
     if s.len() < 34 {
-        return Read::Refused(Refusal::Short);
+        return Ruling::Barred(Refusal::Short);
     }
     if s[1] % 16 != 2 {
-        return Read::Refused(Refusal::Version);
+        return Ruling::Barred(Refusal::Version);
     }
-    let kind = s[0] % 16;
-    let fixed = kinds::fixed_length(kind);
+    let fixed = kinds::fixed_length(s[0] % 16);
     if fixed == 0 {
-        return Read::Refused(Refusal::Kind);
+        return Ruling::Barred(Refusal::Kind);
     }
     let length = u16_at(s, 2) as usize;
     if length < fixed {
-        return Read::Refused(Refusal::Length);
+        return Ruling::Barred(Refusal::Length);
     }
     if s.len() < length {
-        return Read::Refused(Refusal::Short);
+        return Ruling::Barred(Refusal::Short);
     }
-    let suffixed = whole(&s[fixed..length]);
-    let body = body_of(s, kind);
-    if sound(body.stamp()) {
-        if suffixed {
+    if sound(stamp_at(s, 34)) {
+        if whole(&s[fixed..length]) {
+            Ruling::Clear
+        } else {
+            Ruling::Barred(Refusal::Suffix)
+        }
+    } else {
+        Ruling::Barred(Refusal::Field)
+    }
+}
+
+// The message with every field and where its suffix lies, or the first refusal that is due.
+pub fn read(s: &[u8]) -> Read
+    ensures { λ r. ⌜ r ≡ readOf (now (s .entry)) ⌝ }
+{
+    match barred(s) {
+        Ruling::Barred(refusal) => Read::Refused(refusal),
+        Ruling::Clear => {
+            let kind = s[0] % 16;
+            let body = body_of(s, kind);
             let header = header_of(s);
             Read::Got(
                 Message { header, body },
                 Part {
-                    from: fixed,
-                    to: length,
+                    from: kinds::fixed_length(kind),
+                    to: u16_at(s, 2) as usize,
                 },
             )
-        } else {
-            Read::Refused(Refusal::Suffix)
         }
-    } else {
-        Read::Refused(Refusal::Field)
     }
 }

@@ -17,7 +17,7 @@ use Rattle.numbers.specs.Grounds.{firstOf}
 use Rattle.rules_fit.specs.Points.{Point, over, level, slope}
 use Rattle.rules_fit.proofs.Least.{count-is, over-above}
 use Rattle.rules_watch.specs.declared.window.Sample.{Sample}
-use Rattle.rules_watch.specs.Settings.{leastOf}
+use Rattle.rules_watch.specs.Settings.{leastOf, waitOf}
 use Rattle.rules_watch.specs.Totals.{pointsOf}
 use Rattle.rules_watch.specs.Watch.{samplesIn, unreferenced}
 use Rattle.rules_watch.proofs.Points.{two}
@@ -42,12 +42,26 @@ module _ (c : tie.After-totals) where
   test : (least : ℕ) (b : Bool) → least < 256 → ltZ (toZ w64 (ofZ w64 (c .totals .result .n))) (toZ w64 least) ≡ b → ltb (length pts) least ≡ b
   test least b h e = rw (back (within-fits (c .totals .ensures .1 .n) (lit< tt)), n-is, back-pos {n = least} (omega arith)) at e
 
+wait-requires : tie.Need-wait-requires
+wait-requires c κs = search needs
+
 cast-if1 : tie.Need-cast-if1
 cast-if1 c = search needs
 
+-- the samples taken and the holdoff, where the test is taken and where not
+early : (c : tie.Then1) → c .before .before .before .args .head .taken < waitOf (c .before .before .before .args .settings)
+early c =
+    let e = c .before .before .wait .ensures in
+    omega (arith, c .if1 .taken)
+
+late : (c : tie.Else1) → waitOf (c .before .before .before .args .settings) ≤ c .before .before .before .args .head .taken
+late c =
+    let e = c .before .before .wait .ensures in
+    omega (arith, c .if1 .left)
+
 returns : tie.Need-returns
 unfolding firstOf
-returns c = simp (lt-leb _ _ (c .if1 .taken)) (refl, refl, refl)
+returns c = simp (lt-leb _ _ (early c)) (refl, refl, refl)
 
 totals-requires : tie.Need-totals-requires
 totals-requires c κs = search needs
@@ -71,7 +85,7 @@ enough c =
 
 returns-2 : tie.Need-returns-2
 unfolding firstOf
-returns-2 c = simp (le-leb _ _ (c .before .before .before .before .before .before .before .if1 .left), lt-leb _ _ (few c)) (refl, refl, refl)
+returns-2 c = simp (le-leb _ _ (late (c .before .before .before .before .before .before .before)), lt-leb _ _ (few c)) (refl, refl, refl)
 
 line-requires : tie.Need-line-requires
 unfolding over
@@ -83,12 +97,13 @@ returns-3 : tie.Need-returns-3
 unfolding firstOf over level slope
 returns-3 c =
     let d = c .before .before .before .before .before in
-    simp (le-leb _ _ (c .before .before .before .before .before .before .before .before .if1 .left), le-leb _ _ (enough (c .before)), c .line .ensures, d .totals .ensures .0) (refl, refl, refl)
+    simp (le-leb _ _ (late (c .before .before .before .before .before .before .before .before)), le-leb _ _ (enough (c .before)), c .line .ensures, d .totals .ensures .0) (refl, refl, refl)
 
 pub line-spec : {M : Type 1} → statement M
 line-spec =
     tie.close
     (tie.spec
+    wait-requires
     cast-if1
     returns
     totals-requires

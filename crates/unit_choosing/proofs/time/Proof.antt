@@ -1,17 +1,21 @@
 -- `time` meets its contract.
-use borrow.Author.Tests.{lt-ltb, le-ltb}
+use mathlib.Core.Path.{sym, _∙_}
 use borrow.Author.Needs.{needs}
-use Rattle.numbers.specs.Grounds.{firstOf}
 use Rattle.unit_choosing.specs.Choosing.{timePasses, chooses}
 use Rattle.unit_choosing.proofs.time.Statement.{statement}
 use Rattle.unit_choosing.proofs.time.Tie as tie
 
+time-barred-requires : tie.Need-time-barred-requires
+time-barred-requires c κs = search needs
+
+enum-known-number : tie.Need-enum-known-number
+enum-known-number c = search needs
+
 refuse-requires : tie.Need-refuse-requires
 refuse-requires c κs = search needs
 
-returns : tie.Need-returns
-unfolding timePasses firstOf
-returns c = rw (lt-ltb _ _ (c .before .if1 .taken)) (c .refuse .ensures)
+enum-told : tie.Need-enum-told
+enum-told c = search needs
 
 chosen-at-requires : tie.Need-chosen-at-requires
 chosen-at-requires c κs = search needs
@@ -19,9 +23,13 @@ chosen-at-requires c κs = search needs
 hold-requires : tie.Need-hold-requires
 hold-requires c κs = search needs
 
+returns : tie.Need-returns
+unfolding timePasses
+returns c = rw (sym (c .before .before .before .before .time-barred .ensures) ∙ c .before .before .number .given .1) (c .refuse .ensures)
+
 returns-2 : tie.Need-returns-2
-unfolding timePasses chooses firstOf
-returns-2 c = rw (le-ltb _ _ (c .before .before .if1 .left)) (rw (c .before .chosen-at .ensures) at (c .hold .ensures))
+unfolding timePasses chooses
+returns-2 c = rw (sym (c .before .before .before .before .time-barred .ensures) ∙ c .before .before .enum-told .given .1) (rw (c .before .chosen-at .ensures) at (c .hold .ensures))
 
 pub time-spec : {M : Type 1} → statement M
-time-spec = tie.close (tie.spec refuse-requires returns chosen-at-requires hold-requires returns-2)
+time-spec = tie.close (tie.spec time-barred-requires enum-known-number refuse-requires enum-told chosen-at-requires hold-requires returns returns-2)

@@ -22,56 +22,60 @@ small c = rw (c .seat-in .ensures) (seat-in-small _ _ _ _ _)
 seat-in-requires : tie.Need-seat-in-requires
 seat-in-requires c κs = search needs
 
-returns : tie.Need-returns
-returns c = rw (c .before .if1 .taken, c .if2 .taken) at (settled (c .before .before))
+enum-known-ruling : tie.Need-enum-known-ruling
+enum-known-ruling c = search needs
 
-returns-2 : tie.Need-returns-2
-returns-2 c = rw (c .before .if1 .taken, c .if2 .left) at (settled (c .before .before))
+enum-told : tie.Need-enum-told
+enum-told c = search needs
 
 mul-record : tie.Need-mul-record
-mul-record c = let h = small (c .before .before) in search (needs, h)
+mul-record c = let h = small (c .before .before .before) in search (needs, h)
 
 element-copy-out-record : tie.Need-element-copy-out-record
-element-copy-out-record c = let h = small (c .before .before) in search (needs, h)
+element-copy-out-record c = let h = small (c .before .before .before) in search (needs, h)
 
 renewed-requires : tie.Need-renewed-requires
 renewed-requires c κs = search needs
 
-mul-t18 : tie.Need-mul-t18
-mul-t18 c = let h = small (c .before .before .before .before) in search (needs, h)
+mul-t17 : tie.Need-mul-t17
+mul-t17 c = let h = small (c .before .before .before .before .before) in search (needs, h)
 
 element-set-from-table : tie.Need-element-set-from-table
-element-set-from-table c = let h = small (c .before .before .before .before) in search (needs, h)
+element-set-from-table c = let h = small (c .before .before .before .before .before) in search (needs, h)
 
-returns-3 : tie.Need-returns-3
-returns-3 c = rw (c .renewed .ensures) (rw (c .before .before .before .if1 .left, c .before .before .if3 .taken) at (settled (c .before .before .before .before)))
+returns : tie.Need-returns
+returns c = rw (c .renewed .ensures) (rw (c .before .before .before .enum-told .given .1, c .before .before .if1 .taken) at (settled (c .before .before .before .before .before)))
 
 entered-requires : tie.Need-entered-requires
 entered-requires c κs = search needs
 
-mul-t27 : tie.Need-mul-t27
-mul-t27 c = let h = small (c .before .before .before) in search (needs, h)
+mul-t26 : tie.Need-mul-t26
+mul-t26 c = let h = small (c .before .before .before .before) in search (needs, h)
 
 element-set-from-table-2 : tie.Need-element-set-from-table-2
-element-set-from-table-2 c = let h = small (c .before .before .before) in search (needs, h)
+element-set-from-table-2 c = let h = small (c .before .before .before .before) in search (needs, h)
 
-returns-4 : tie.Need-returns-4
-returns-4 c = rw (c .entered .ensures) (rw (c .before .before .if1 .left, c .before .if3 .left) at (settled (c .before .before .before)))
+returns-2 : tie.Need-returns-2
+returns-2 c = rw (c .before .ruling .given .1) at (settled (c .before .before .before))
+
+returns-3 : tie.Need-returns-3
+returns-3 c = rw (c .entered .ensures) (rw (c .before .before .enum-told .given .1, c .before .if1 .left) at (settled (c .before .before .before .before)))
 
 pub settle-spec : {M : Type 1} → statement M
 settle-spec =
     tie.close
     (tie.spec
     seat-in-requires
-    returns
-    returns-2
+    enum-known-ruling
+    enum-told
     mul-record
     element-copy-out-record
     renewed-requires
-    mul-t18
+    mul-t17
     element-set-from-table
-    returns-3
+    returns
     entered-requires
-    mul-t27
+    mul-t26
     element-set-from-table-2
-    returns-4)
+    returns-2
+    returns-3)

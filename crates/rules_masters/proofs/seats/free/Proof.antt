@@ -39,12 +39,9 @@ returns-5 : tie.Need-returns-5
 unfolding placeOf
 returns-5 c = rw (c .before .if5 .taken, c .before .before .if4 .left, c .before .before .before .if3 .left, c .before .before .before .before .if2 .left, c .before .before .before .before .before .if1 .left) (c .taken5 .ensures)
 
-number-requires : tie.Need-number-requires
-number-requires c κs = search needs
-
 returns-6 : tie.Need-returns-6
 unfolding placeOf
-returns-6 c = rw (c .before .if5 .left, c .before .before .if4 .left, c .before .before .before .if3 .left, c .before .before .before .before .if2 .left, c .before .before .before .before .before .if1 .left, c .number .ensures)
+returns-6 c = rw (c .if5 .left, c .before .if4 .left, c .before .before .if3 .left, c .before .before .before .if2 .left, c .before .before .before .before .if1 .left)
 
 pub free-spec : {M : Type 1} → statement M
 free-spec =
@@ -60,5 +57,4 @@ free-spec =
     returns-4
     taken-requires-5
     returns-5
-    number-requires
     returns-6)

@@ -3,11 +3,11 @@ use borrow.Author.Needs.{needs}
 use Rattle.rules_watch.proofs.Watch.fresh.Statement.{statement}
 use Rattle.rules_watch.proofs.Watch.fresh.Tie as tie
 
-fresh-requires : tie.Need-fresh-requires
-fresh-requires c κs = search needs
+empty-requires : tie.Need-empty-requires
+empty-requires c κs = search needs
 
 returns : tie.Need-returns
-returns c = rw (c .fresh .ensures)
+returns c = let e = c .empty .ensures in rw (e .0, e .1, e .2, e .3)
 
 pub fresh-spec : {M : Type 1} → statement M
-fresh-spec = tie.close (tie.spec fresh-requires returns)
+fresh-spec = tie.close (tie.spec empty-requires returns)

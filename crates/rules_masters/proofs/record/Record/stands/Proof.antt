@@ -1,7 +1,7 @@
 -- rules_masters::record::Record::stands meets its contract.
 use mathlib.Core.Path.{sym, _∙_}
 use Rattle.rules_masters.specs.Records.{knownOf}
-use Rattle.rules_masters.specs.Inner.{standingOf}
+use Rattle.rules_masters.specs.Admitting.{standingOf}
 use borrow.Author.Needs.{needs}
 use Rattle.rules_masters.proofs.record.Record.stands.Statement.{statement}
 use Rattle.rules_masters.proofs.record.Record.stands.Tie as tie

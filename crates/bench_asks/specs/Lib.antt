@@ -1,0 +1,2 @@
+-- What a line asks of the unit.
+pub mod Asking

@@ -1,0 +1,2 @@
+-- Laws of the words that their reader cites.
+pub mod ByKind

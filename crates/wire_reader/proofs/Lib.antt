@@ -1,0 +1,2 @@
+-- What a ruling of reading tells of what is read.
+pub mod Rulings

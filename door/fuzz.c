@@ -524,7 +524,7 @@ static void call_write(void)
         fprintf(list, " %zu\n", part.size);
     }
     struct sinezhab_written w = sinezhab_write(m, lend(&input), input.size, lend(&part), part.size);
-    need(!m.refused || w.refused == m.refused, "a refused message, and not that number");
+    need(!m.refused || w.refused == SINEZHAB_REFUSAL_KIND, "a refused message, and not KIND");
     need(w.refused == 0 || (w.length == 0 && kept(&part)), "refused, and the part has changed");
     if (w.refused) return;
     need(w.length == fixed(m.kind) + input.size && w.length <= part.size, "not as long as it must be");

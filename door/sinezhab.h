@@ -257,7 +257,7 @@ struct sinezhab_written { uint8_t refused; size_t length; };
 struct sinezhab_message sinezhab_read(const uint8_t *octets, size_t length);
 
 /* The message and its suffix into the lent part; octets past `length` keep their values. `from` and `to` are not looked at; a message
- * with `refused` set is refused with that number. */
+ * with `refused` set is none, and refused with 3. */
 struct sinezhab_written sinezhab_write(struct sinezhab_message message, const uint8_t *suffix, size_t count, uint8_t *part, size_t room);
 
 /* The layout that libdoor.a was made for; door/layout.c asks the library. */

@@ -31,7 +31,7 @@ pub enum ToUnit {
 
 // The settings in the line's order.
 fn unit(s: &[u8], at: usize) -> ToUnit
-    ensures { λ r. ⌜ heldByUnit r ≤ 131072 ⌝ }
+    ensures { λ r. ⌜ heldByUnit r ≤ 131_072 ⌝ }
 {
     let domain = unsigned8(s, at);
     let own = port_words(s, domain.next);
@@ -68,7 +68,7 @@ fn unit(s: &[u8], at: usize) -> ToUnit
 }
 
 fn receive(s: &[u8], at: usize, octets: &mut Store) -> ToUnit
-    ensures { λ r. ⌜ heldByUnit r ≤ 131072 ⌝ }
+    ensures { λ r. ⌜ heldByUnit r ≤ 131_072 ⌝ }
 {
     let now = unsigned64(s, at);
     let words = stamp_words(s, now.next);
@@ -81,7 +81,7 @@ fn receive(s: &[u8], at: usize, octets: &mut Store) -> ToUnit
 }
 
 fn request(s: &[u8], at: usize) -> ToUnit
-    ensures { λ r. ⌜ heldByUnit r ≤ 131072 ⌝ }
+    ensures { λ r. ⌜ heldByUnit r ≤ 131_072 ⌝ }
 {
     let now = unsigned64(s, at);
     let length = number(s, now.next, 2000);
@@ -92,7 +92,7 @@ fn request(s: &[u8], at: usize) -> ToUnit
 }
 
 fn sent(s: &[u8], at: usize) -> ToUnit
-    ensures { λ r. ⌜ heldByUnit r ≤ 131072 ⌝ }
+    ensures { λ r. ⌜ heldByUnit r ≤ 131_072 ⌝ }
 {
     let now = unsigned64(s, at);
     let sequence = unsigned16(s, now.next);
@@ -105,7 +105,7 @@ fn sent(s: &[u8], at: usize) -> ToUnit
 }
 
 fn time(s: &[u8], at: usize) -> ToUnit
-    ensures { λ r. ⌜ heldByUnit r ≤ 131072 ⌝ }
+    ensures { λ r. ⌜ heldByUnit r ≤ 131_072 ⌝ }
 {
     let now = unsigned64(s, at);
     if now.next == s.len() {
@@ -115,7 +115,7 @@ fn time(s: &[u8], at: usize) -> ToUnit
 }
 
 fn tick(s: &[u8], at: usize) -> ToUnit
-    ensures { λ r. ⌜ heldByUnit r ≤ 131072 ⌝ }
+    ensures { λ r. ⌜ heldByUnit r ≤ 131_072 ⌝ }
 {
     let reference = signed64(s, at);
     let clock = signed64(s, reference.next);
@@ -134,7 +134,7 @@ fn alone(s: &[u8], at: usize, call: ToUnit) -> ToUnit
 
 // The call that the line is, or none.
 pub(crate) fn call_to_unit(s: &[u8], octets: &mut Store) -> ToUnit
-    ensures { λ r. ⌜ heldByUnit r ≤ 131072 ⌝ }
+    ensures { λ r. ⌜ heldByUnit r ≤ 131_072 ⌝ }
 {
     if begins(s, b"unit") {
         return unit(s, 4);
@@ -152,7 +152,7 @@ pub(crate) fn call_to_unit(s: &[u8], octets: &mut Store) -> ToUnit
 }
 
 fn short_call(s: &[u8]) -> ToUnit
-    ensures { λ r. ⌜ heldByUnit r ≤ 131072 ⌝ }
+    ensures { λ r. ⌜ heldByUnit r ≤ 131_072 ⌝ }
 {
     if begins(s, b"time") {
         return time(s, 4);

@@ -258,7 +258,7 @@ pub struct Octets {
 
 // Octets in lower-case hex, put in front of `into`; `-` means none.
 pub(crate) fn octets_at(s: &[u8], at: usize, into: &mut Store) -> Octets
-    ensures { λ r. ⌜ r .count ≤ 131072 ⌝ }
+    ensures { λ r. ⌜ r .count ≤ 131_072 ⌝ }
 {
     let from = gap(s, at);
     if s.len() <= from {

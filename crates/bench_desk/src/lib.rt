@@ -35,7 +35,7 @@ fn frame_length(length: usize) -> usize
 
 // What is answered where the unit is not asked.
 fn unasked(out: &mut Out, at: usize, asks: Asks) -> usize
-    ensures { λ r. ⌜ r ≤ 65536 ⌝ }
+    ensures { λ r. ⌜ r ≤ 65_536 ⌝ }
 {
     match asks {
         Asks::Refused(refusal) => refused(out, at, refusal),
@@ -46,7 +46,7 @@ fn unasked(out: &mut Out, at: usize, asks: Asks) -> usize
 
 // What is answered to a call that needs no unit.
 fn other_answer(out: &mut Out, at: usize, call: Call, octets: &Store) -> usize
-    ensures { λ r. ⌜ r ≤ 65536 ⌝ }
+    ensures { λ r. ⌜ r ≤ 65_536 ⌝ }
 {
     match call {
         Call::Lend(_) => text(out, at, b"ok"),
@@ -79,7 +79,7 @@ impl Desk {
     }
 
     fn makes(mut self, out: &mut Out, settings: Settings) -> Desk
-        ensures { λ r. ⌜ r .at ≤ 65536 ⌝ }
+        ensures { λ r. ⌜ r .at ≤ 65_536 ⌝ }
     {
         self.unit = Unit::fresh(settings);
         self.made = true;
@@ -89,7 +89,7 @@ impl Desk {
 
     // The unit as a call left it, and what it answered; `frame` is what was lent for a request.
     fn hears(mut self, out: &mut Out, stepped: Stepped, frame: &[u8]) -> Desk
-        ensures { λ r. ⌜ r .at ≤ 65536 ⌝ }
+        ensures { λ r. ⌜ r .at ≤ 65_536 ⌝ }
     {
         let unit = stepped.unit;
         let answer = stepped.answer;
@@ -100,7 +100,7 @@ impl Desk {
 
     // A frame of so many octets is lent for the unit's Delay_Req.
     fn requests(self, out: &mut Out, now: u64, length: usize) -> Desk
-        ensures { λ r. ⌜ r .at ≤ 65536 ⌝ }
+        ensures { λ r. ⌜ r .at ≤ 65_536 ⌝ }
     {
         let mut whole = [0xeeu8; 2000];
         let room = frame_length(length);
@@ -110,7 +110,7 @@ impl Desk {
     }
 
     fn calls(self, out: &mut Out, asked: Asked) -> Desk
-        ensures { λ r. ⌜ r .at ≤ 65536 ⌝ }
+        ensures { λ r. ⌜ r .at ≤ 65_536 ⌝ }
     {
         let unit = self.unit;
         self.hears(out, unit.serve(asked), b"")
@@ -118,7 +118,7 @@ impl Desk {
 
     // A line to the unit. A refused `unit` line leaves the unit that was there.
     fn plays(mut self, out: &mut Out, asks: Asks) -> Desk
-        ensures { λ r. ⌜ r .at ≤ 65536 ⌝ }
+        ensures { λ r. ⌜ r .at ≤ 65_536 ⌝ }
     {
         match asks {
             Asks::Make(settings) => self.makes(out, settings),
@@ -133,7 +133,7 @@ impl Desk {
 
     // The call's answer, behind those gathered.
     pub fn answer(mut self, out: &mut Out, call: Call, octets: &Store) -> Desk
-        ensures { λ r. ⌜ r .at ≤ 65536 ⌝ }
+        ensures { λ r. ⌜ r .at ≤ 65_536 ⌝ }
     {
         match call {
             Call::ToUnit(c) => self.plays(out, asks_of(self.made, self.lent, c, octets)),

@@ -23,7 +23,7 @@ fn part_of(s: &[u8], p: Part) -> &[u8] {
 }
 
 pub fn read(out: &mut Out, at: usize, s: &[u8]) -> usize
-    ensures { λ r. ⌜ r ≤ 65536 ⌝ }
+    ensures { λ r. ⌜ r ≤ 65_536 ⌝ }
 {
     match wire_reader::read(s) {
         Read::Got(m, p) => {
@@ -36,7 +36,7 @@ pub fn read(out: &mut Out, at: usize, s: &[u8]) -> usize
 
 // The part that is lent to writing has `room` octets, each ee before the call.
 pub fn write(out: &mut Out, at: usize, m: Message, suffix: &[u8], room: usize) -> usize
-    ensures { λ r. ⌜ r ≤ 65536 ⌝ }
+    ensures { λ r. ⌜ r ≤ 65_536 ⌝ }
 {
     let mut whole = [0xeeu8; 70_000];
     if 70_000 < room {

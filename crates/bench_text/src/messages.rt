@@ -17,7 +17,7 @@ use wire_layout::message::Offer;
 use wire_layout::message::Port;
 
 fn header_text(out: &mut Out, at: usize, h: Header) -> usize
-    ensures { λ r. ⌜ r ≤ 65536 ⌝ }
+    ensures { λ r. ⌜ r ≤ 65_536 ⌝ }
 {
     let mut end = field8(out, at, b" sdo=", h.sdo);
     end = field8(out, end, b" minor=", h.minor);
@@ -30,7 +30,7 @@ fn header_text(out: &mut Out, at: usize, h: Header) -> usize
 
 // The rest of the header, from the source port identity on.
 fn sender_text(out: &mut Out, at: usize, h: Header) -> usize
-    ensures { λ r. ⌜ r ≤ 65536 ⌝ }
+    ensures { λ r. ⌜ r ≤ 65_536 ⌝ }
 {
     let mut end = identity_field(out, at, b" clock=", h.source.clock);
     end = field16(out, end, b" port=", h.source.number);
@@ -40,7 +40,7 @@ fn sender_text(out: &mut Out, at: usize, h: Header) -> usize
 }
 
 fn stamp_text(out: &mut Out, at: usize, t: Stamp) -> usize
-    ensures { λ r. ⌜ r ≤ 65536 ⌝ }
+    ensures { λ r. ⌜ r ≤ 65_536 ⌝ }
 {
     let end = field64(out, at, b" seconds=", t.seconds);
     field32(out, end, b" nanos=", t.nanoseconds)
@@ -48,7 +48,7 @@ fn stamp_text(out: &mut Out, at: usize, t: Stamp) -> usize
 
 // A port identity behind its name.
 pub fn port_text(out: &mut Out, at: usize, name: &[u8], p: Port) -> usize
-    ensures { λ r. ⌜ r ≤ 65536 ⌝ }
+    ensures { λ r. ⌜ r ≤ 65_536 ⌝ }
 {
     let end = identity_field(out, at, name, p.clock);
     field16(out, end, b"-", p.number)
@@ -56,7 +56,7 @@ pub fn port_text(out: &mut Out, at: usize, name: &[u8], p: Port) -> usize
 
 // What the grandmaster is compared by.
 fn grandmaster_text(out: &mut Out, at: usize, o: Offer) -> usize
-    ensures { λ r. ⌜ r ≤ 65536 ⌝ }
+    ensures { λ r. ⌜ r ≤ 65_536 ⌝ }
 {
     let mut end = field8(out, at, b" p1=", o.priority1);
     end = field8(out, end, b" class=", o.class);
@@ -67,7 +67,7 @@ fn grandmaster_text(out: &mut Out, at: usize, o: Offer) -> usize
 }
 
 fn offer_text(out: &mut Out, at: usize, o: Offer) -> usize
-    ensures { λ r. ⌜ r ≤ 65536 ⌝ }
+    ensures { λ r. ⌜ r ≤ 65_536 ⌝ }
 {
     let mut end = signed_field16(out, at, b" utc=", o.utc);
     end = field8(out, end, b" reserved=", o.reserved);
@@ -77,7 +77,7 @@ fn offer_text(out: &mut Out, at: usize, o: Offer) -> usize
 }
 
 fn body_text(out: &mut Out, at: usize, b: Body) -> usize
-    ensures { λ r. ⌜ r ≤ 65536 ⌝ }
+    ensures { λ r. ⌜ r ≤ 65_536 ⌝ }
 {
     let end = stamp_text(out, at, b.stamp());
     match b {
@@ -88,7 +88,7 @@ fn body_text(out: &mut Out, at: usize, b: Body) -> usize
 }
 
 pub fn message_text(out: &mut Out, at: usize, m: Message) -> usize
-    ensures { λ r. ⌜ r ≤ 65536 ⌝ }
+    ensures { λ r. ⌜ r ≤ 65_536 ⌝ }
 {
     let h = m.header;
     let b = m.body;

@@ -1,8 +1,12 @@
 -- The theorems: Demands states them, and the files before it prove what it cites.
+mod Refusing
+mod Requests
+mod Lines
 mod Staying
 mod Waiting
 mod Keeping
 mod Wiping
 mod Limiting
 mod Samples
+mod Parts
 pub mod Demands

@@ -28,10 +28,10 @@ module _ (s : Settings) (b : Book) where
   abbrev before : List Stamps
   before = all aPulse (sinceWipe b)
 
-  abbrev Grown : Book → Type 0
-  Grown c = (new : List Sample) × (length new ≤ 1) × (takenIn s c ≡ takenIn s b ++ new)
+  abbrev Longer : Book → Type 0
+  Longer c = (new : List Sample) × (length new ≤ 1) × (takenIn s c ≡ takenIn s b ++ new)
 
-  nothing-new : Grown b
+  nothing-new : Longer b
   nothing-new = ([], omega arith, sym (append-nil (takenIn s b)))
 
   -- a call that is written, and does not wipe
@@ -50,13 +50,13 @@ module _ (s : Settings) (b : Book) where
   pulse-new Line a = nothing-new
   pulse-new Show a = nothing-new
 
-  written-grown : (call : Call) (a : Answer) → wipesOf a ≡ false → Grown (entry call a ∷ b)
+  written-grown : (call : Call) (a : Answer) → wipesOf a ≡ false → Longer (entry call a ∷ b)
   written-grown call a h = let g = pulse-new call a in (g .0, g .1, ap (λ (l : Book). samplesOf (s .watch) (all aPulse l)) (written-since call a h) ∙ g .2)
 
-  call-grown : (call : Call) (a : Answer) → wipesOf a ≡ false → Grown (bookWith call a b)
+  call-grown : (call : Call) (a : Answer) → wipesOf a ≡ false → Longer (bookWith call a b)
   call-grown call a h = go (isRefusal a)
     where
-      go : (r : Bool) → Grown (cond r b (entry call a ∷ b))
+      go : (r : Bool) → Longer (cond r b (entry call a ∷ b))
       go true = nothing-new
       go false = written-grown call a h
 
@@ -75,7 +75,7 @@ module _ (s : Settings) (b : Book) where
   unfolding since all samplesOf
   call-emptied call a h = rw (wipe-written a h, h)
 
-  asked-grown : (a : Asked) → wipesOf (answerTo s b a) ≡ false → Grown (writtenBy s b a)
+  asked-grown : (a : Asked) → wipesOf (answerTo s b a) ≡ false → Longer (writtenBy s b a)
   asked-grown (Barred r) h = nothing-new
   asked-grown (Asks call) h = call-grown call (answer s b call) h
 

@@ -22,6 +22,7 @@ use Rattle.rules_masters.specs.declared.table.Table.{Table as Masters}
 use Rattle.rules_watch.specs.declared.settings.WatchSettings.{WatchSettings}
 use Rattle.rules_watch.specs.declared.window.Sample.{Sample}
 use Rattle.rules_watch.specs.declared.Watch.{Watch}
+use Rattle.rules_watch.specs.declared.Drift.{Drift}
 use Rattle.rules_watch.specs.declared.Drift.the-variants as drift
 use Rattle.rules_watch.specs.declared.judging.Outcome.{Outcome}
 use Rattle.rules_watch.specs.declared.judging.Outcome.the-variants.{Refuse, Wipe, Take}
@@ -35,8 +36,9 @@ use Rattle.rules_watch.proofs.Outcomes.{line-is}
 use Rattle.rules_watch.proofs.Story.{Good, fresh-good, same-outcome, good-keeps, next-taken, good-line}
 use Rattle.unit_core.specs.declared.calls.Call.{Call}
 use Rattle.unit_core.specs.declared.calls.Call.the-variants.{Receive, Request, Sent, Time, Reset, Tick, Line, Show}
+use Rattle.unit_core.specs.declared.calls.Answer.the-variants as answers
 use Rattle.unit_core.specs.Effects.{Stays, Effect, keeps, goes, takes, wipes, staysOf}
-use Rattle.unit_ticking.specs.Ticking.{ticks}
+use Rattle.unit_ticking.specs.Ticking.{ticks, lineBy}
 use Rattle.unit.specs.declared.Unit.{Unit}
 use Rattle.unit.specs.declared.handing.Asked.{Asked}
 use Rattle.unit.specs.declared.handing.Asked.the-variants.{Barred, Asks}
@@ -45,7 +47,7 @@ use Rattle.unit.specs.Handing.{Handed, receive, request, sent, time, reset, tic
 use Rattle.unit.proofs.Fair.{Fair}
 use Rattle.unit.proofs.Fairly.{most, fair}
 use Rattle.door_loop.specs.Loop.{Table, countedIn}
-use Rattle.demands.specs.Words.{counting, pulsesIn}
+use Rattle.demands.specs.Words.{counting, pulsesIn, TooFew}
 
 -- of at most k samples since the wipe the watch w tells
 pub record Few (t : WatchSettings) (k : ℕ) (w : Watch) : Type 0 where
@@ -142,7 +144,7 @@ pub settings-stay : (c : Unit) (call : Handed ℕ) → servedOf c call .unit .co
 unfolding servedOf
 settings-stay c call = settings-asked c (askedOf call)
 
-pub settings-all : (c : Unit) (l : List (Handed ℕ)) → servedAll c l .core .settings ≡ c .core .settings
+settings-all : (c : Unit) (l : List (Handed ℕ)) → servedAll c l .core .settings ≡ c .core .settings
 unfolding servedAll
 settings-all c [] = refl
 settings-all c (call ∷ l) = settings-all (servedOf c call .unit) l ∙ settings-stay c call
@@ -201,15 +203,27 @@ module _ (t : WatchSettings) (k : ℕ) (w : Watch) (f : Few t k w) where
       inr
       (lt-leb (leastOf t) (length (pointsOf window)) (omega (arith, f .few, h, points-few (positions window) window, last-few (sizeOf t) (f .since .samples))))
 
-  pub line-early : (k < waitOf t) ⊎ (k < leastOf t) → watchLine t w ≡ drift.Refused NotReady
+  line-early : (k < waitOf t) ⊎ (k < leastOf t) → watchLine t w ≡ drift.Refused NotReady
   line-early h =
       good-line (f .good) ∙ line-is t n window
       ∙ ap (λ (b : Bool). cond b (drift.Line (lineThrough (pointsOf window))) (drift.Refused NotReady)) (not-due (leb (waitOf t) n) (leb (leastOf t) (length (pointsOf window))) (early h))
 
 -- from a fresh watch, whatever the unit is beside it
-pub waits : (c : Unit) → c .watch ≡ freshWatch → (l : List (Handed ℕ)) → Few (c .core .settings .watch) (pulsesIn l) (servedAll c l .watch)
+waits : (c : Unit) → c .watch ≡ freshWatch → (l : List (Handed ℕ)) → Few (c .core .settings .watch) (pulsesIn l) (servedAll c l .watch)
 waits c e l =
     few-more (few-all (c .core .settings .watch) c 0 refl (subst (λ (w : Watch). Few (c .core .settings .watch) 0 w) (sym e) (few-fresh (c .core .settings .watch) 0)) l) (pulsesIn l) (omega arith)
+
+early-by : (d : Drift) (n : ℕ) → d ≡ drift.Refused NotReady → lineBy d n ≡ answers.Refused NotReady
+early-by d n h = rw h
+
+pub waiting : (c : Unit) → c .watch ≡ freshWatch → (later : List (Handed ℕ)) → TooFew (c .core .settings) later
+    → servedOf (servedAll c later) line .answer ≡ answers.Refused NotReady
+unfolding servedOf askedOf
+waiting c h later k =
+    let d = servedAll c later in
+    early-by (watchLine (d .core .settings .watch) (d .watch)) (d .core .domain .wipes)
+    (subst (λ (s : Settings). watchLine (s .watch) (d .watch) ≡ drift.Refused NotReady) (sym (settings-all c later))
+    (line-early (c .core .settings .watch) (pulsesIn later) (d .watch) (waits c h later) k))
 
 -- the pulses of a list for C
 counted-pulse : (call : Handed Table) (n : ℕ) → counting (countedIn call) n ≡ counting call n

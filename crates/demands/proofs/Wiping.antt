@@ -4,7 +4,6 @@ use mathlib.Core.Logic.{_⊎_, inl, inr}
 use mathlib.Core.Bool.{true, false}
 use Prim.Native.Nat.{ℕ}
 use native.Mathlib.Omega.{arith}
-use lib.IntN.{ℤ}
 use lib.ListN.{length}
 use Rattle.numbers.specs.declared.stamp.Stamp.{Stamp}
 use Rattle.numbers.specs.declared.refusal.Refusal.the-variants.{Settings as Outside}
@@ -19,11 +18,9 @@ use Rattle.rules_masters.specs.declared.table.Table.{Table}
 use Rattle.rules_masters.specs.declared.chosen.Decision.the-variants as decisions
 use Rattle.rules_exchange.specs.declared.said.Said.{Said}
 use Rattle.rules_exchange.specs.declared.said.Said.the-variants.{Held, Paired, Asked, Stamped, Back, Neg, Long, Huge, HugeFaulty, Path, PathWiped, Step, Measured}
-use Rattle.rules_watch.specs.declared.window.Sample.{Sample}
 use Rattle.rules_watch.specs.declared.Pulse.the-variants as pulses
-use Rattle.rules_watch.specs.Settings.{sizeOf}
 use Rattle.rules_watch.specs.Rules.{outcome}
-use Rattle.rules_watch.specs.Watch.{sinceOf, watchLine, pushed}
+use Rattle.rules_watch.specs.Watch.{sinceOf, watchLine}
 use Rattle.numbers.specs.declared.units.Ppb.{Ppb}
 use Rattle.unit_core.specs.declared.calls.Call.{Call}
 use Rattle.unit_core.specs.declared.calls.Call.the-variants as calls
@@ -43,7 +40,7 @@ use Rattle.unit.proofs.Refusals.{never}
 use Rattle.unit.proofs.Faults.{faulty-lasts}
 use Rattle.unit.proofs.Wipes.{says-wiped}
 use Rattle.door_words.specs.Answers.{answerWords}
-use Rattle.demands.specs.Words.{Emptied, chosenBy, faultyBy, nowIn, tableFound, isRefused, saysWiped}
+use Rattle.demands.specs.Words.{Emptied, Grown, chosenBy, faultyBy, nowIn, tableFound, isRefused, saysWiped}
 use Rattle.demands.proofs.Staying.{Staying, nowOf, staying}
 use Rattle.demands.proofs.Keeping.{said-speaks, pulse-speaks}
 
@@ -58,11 +55,7 @@ module _ (c : Unit) (x : Table) where
   after-wiped (takes origin y) h = absurd (never h)
   after-wiped (wipes a k) h = (record { run = refl; servo = refl; watch = refl }, refl)
 
-  -- the watch is as it was, or has one sample more
-  abbrev pub Grown : Unit → Type 0
-  Grown d = (d .watch ≡ c .watch) ⊎ ((origin : ℤ) × (y : Sample) × (d .watch ≡ pushed (sizeOf (c .core .settings .watch)) origin y (c .watch)))
-
-  after-kept : (e : Effect) → isWipe e ≡ false → (applied c x e .unit .core .domain .wipes ≡ c .core .domain .wipes) × Grown (applied c x e .unit)
+  after-kept : (e : Effect) → isWipe e ≡ false → (applied c x e .unit .core .domain .wipes ≡ c .core .domain .wipes) × Grown (c .core .settings) (c .watch) (applied c x e .unit .watch)
   after-kept (keeps a) h = (refl, inl refl)
   after-kept (goes a k r) h = (refl, inl refl)
   after-kept (takes origin y) h = (refl, inr (origin, y, refl))
@@ -75,7 +68,7 @@ module _ (c : Unit) where
   wiped-by (Barred r) h = absurd (never h)
   wiped-by (Asks call) h = after-wiped c (unitTable c call) (unitEffect c call) (sym (says-wiped c call) ∙ h)
 
-  pub kept-by : (a : Asking) → wipesOf (steppedBy c a .answer) ≡ false → (steppedBy c a .unit .core .domain .wipes ≡ c .core .domain .wipes) × Grown c (c .table) (steppedBy c a .unit)
+  pub kept-by : (a : Asking) → wipesOf (steppedBy c a .answer) ≡ false → (steppedBy c a .unit .core .domain .wipes ≡ c .core .domain .wipes) × Grown (c .core .settings) (c .watch) (steppedBy c a .unit .watch)
   kept-by (Barred r) h = (refl, inl refl)
   kept-by (Asks call) h = after-kept c (unitTable c call) (unitEffect c call) (sym (says-wiped c call) ∙ h)
 

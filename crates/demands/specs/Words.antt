@@ -1,28 +1,46 @@
 -- What the demands read off an answer, a call, or a list of calls.
-use Prim.Native.Nat.{ℕ, suc}
+use Prim.Native.Nat.{ℕ, suc, _<_, _%_, _^_}
 use mathlib.Core.Path.{_≡_}
-use mathlib.Core.Bool.{Bool, false, _||_}
-use mathlib.Core.List.{List, [], _∷_}
-use lib.Dec.{eqb}
+use mathlib.Core.Logic.{_⊎_}
+use mathlib.Core.Bool.{Bool, false, _&&_, _||_}
+use mathlib.Core.List.{List, [], _∷_, reverse}
+use lib.Dec.{eqb, leb}
 use lib.IntN.{ℤ, pos}
+use lib.ListN.{length}
+use Rattle.numbers.specs.Integers.{up}
 use Rattle.rules_masters.specs.declared.chosen.Chosen.{Chosen}
 use Rattle.rules_masters.specs.Holding.{masterOf}
 use Rattle.rules_masters.specs.declared.table.Table.{Table}
 use Rattle.rules_watch.specs.declared.window.Sample.{Sample}
+use Rattle.rules_watch.specs.declared.Watch.{Watch as DriftWatch}
+use Rattle.rules_watch.specs.Settings.{sizeOf, leastOf, waitOf}
+use Rattle.rules_watch.specs.Window.{lastN}
+use Rattle.rules_watch.specs.Watch.{pushed}
+use Rattle.rules_watch.specs.Totals.{pointsOf}
 use Rattle.rules_settings.specs.declared.Settings.{Settings}
+use Rattle.rules_settings.specs.declared.Given.{Given}
+use Rattle.rules_settings.specs.Ranges.{asGiven}
 use Rattle.unit_core.specs.declared.calls.Answer.{Answer}
 use Rattle.unit_core.specs.declared.calls.Answer.the-variants.{Refused, Choice, Exchange, Watch, Wiped, Line, Shows}
 use Rattle.unit.specs.declared.Unit.{Unit}
 use Rattle.unit.specs.declared.handing.Asked.{Asked}
 use Rattle.unit.specs.declared.handing.Asked.the-variants.{Barred, Asks}
 use Rattle.unit.specs.Calls.{freshUnit, unitTable}
-use Rattle.unit.specs.Handing.{Handed, receive, request, sent, time, reset, tick, line, show}
-use Rattle.story.specs.Book.{Book, samples}
+use Rattle.unit.specs.Handing.{Handed, receive, request, sent, time, reset, tick, line, show, servedAll}
+use Rattle.story.specs.Book.{Book, samples, wipeCount}
+use Rattle.story.specs.Tale.{book}
 use Rattle.door_records.specs.declared.masters.MasterWords.{MasterWords}
 use Rattle.door_words.specs.declared.answers.AnswerWords.{AnswerWords}
-use Rattle.door_loop.specs.Loop.{Table as Lendable, own, stray}
+use Rattle.door_loop.specs.Loop.{Parts, Table as Lendable, own, stray, looped, freshParts}
 
--- the output that an answer tells, in ppb; 0 where it tells none
+-- ---- after a list of calls, the oldest first: a fresh unit, and for C the parts of one
+abbrev pub unitAfter : Settings → List (Handed ℕ) → Unit
+unitAfter s list = servedAll (freshUnit s) list
+
+abbrev pub partsAfter : Settings → List (Handed Lendable) → Parts
+partsAfter s list = looped (freshParts s) list
+
+-- ---- the output that an answer tells, in ppb; 0 where it tells none
 abbrev pub outputIn : Answer → ℤ
 outputIn (Refused r) = pos 0
 outputIn (Choice d) = pos 0
@@ -75,9 +93,29 @@ pub record Emptied (s : Settings) (c : Unit) : Type 0 where
   pub servo : c .servo ≡ freshUnit s .servo
   pub watch : c .watch ≡ freshUnit s .watch
 
+-- the watch is as before, or has one sample more, and then the last W of them
+abbrev pub Grown : Settings → DriftWatch → DriftWatch → Type 0
+Grown s before after = (after ≡ before) ⊎ ((origin : ℤ) × (x : Sample) × (after ≡ pushed (sizeOf (s .watch)) origin x before))
+
 -- ---- the samples taken since the last wipe, the oldest first, as the book has them
 abbrev pub takenIn : Settings → Book → List Sample
 takenIn s b = samples s b .samples
+
+-- with settings as they were given, after a list of calls, the oldest first: these samples, ..
+abbrev pub taken : Given → List (Handed ℕ) → List Sample
+taken g list = takenIn (asGiven g) (book (asGiven g) (reverse list))
+
+-- .. of them the last W, ..
+abbrev pub window : Given → List (Handed ℕ) → List Sample
+window g list = lastN (up (g .window)) (taken g list)
+
+-- .. whether they reach holdoff and minimum, ..
+abbrev pub isDue : Given → List (Handed ℕ) → Bool
+isDue g list = leb (up (g .holdoff)) (length (taken g list)) && leb (up (g .minimum)) (length (pointsOf (window g list)))
+
+-- .. and the wipe count, which has 32 bits
+abbrev pub wipesCounted : Given → List (Handed ℕ) → ℕ
+wipesCounted g list = wipeCount (book (asGiven g) (reverse list)) % 2 ^ 32
 
 -- ---- the second pulses in a list of calls
 abbrev pub counting : {T : Type 0} → Handed T → ℕ → ℕ
@@ -93,6 +131,10 @@ counting show n = n
 unfoldable pub pulsesIn : {T : Type 0} → List (Handed T) → ℕ
 pulsesIn [] = 0
 pulsesIn (call ∷ l) = counting call (pulsesIn l)
+
+-- fewer than the holdoff asks, or than the minimum
+abbrev pub TooFew : {T : Type 0} → Settings → List (Handed T) → Type 0
+TooFew s list = (pulsesIn list < waitOf (s .watch)) ⊎ (pulsesIn list < leastOf (s .watch))
 
 -- ---- the stray table that a call for C is lent; none where it is lent the loop's own, or no table
 abbrev pub strayBy : Lendable → List MasterWords

@@ -75,10 +75,11 @@ byKind k h t p o =
     cond (eqb k 0) (with h (Sync t))
     (cond (eqb k 1) (with h (DelayReq t))
     (cond (eqb k 8) (with h (FollowUp t))
-    (cond (eqb k 9) (with h (DelayResp t p)) (cond (eqb k 11) (with h (Announce t o)) (Barred (numberOf Kind))))))
+    (cond (eqb k 9) (with h (DelayResp t p)) (cond (eqb k 11) (with h (Announce t o)) (Barred Kind)))))
 
+-- what was refused in reading is no message, whatever number is there
 unfoldable pub messageBy : MessageWords → Handed
-messageBy w = cond (eqb (w .refused) 0) (byKind (w .kind) (w .header) (w .stamp) (w .requester) (w .offer)) (Barred (w .refused))
+messageBy w = cond (eqb (w .refused) 0) (byKind (w .kind) (w .header) (w .stamp) (w .requester) (w .offer)) (Barred Kind)
 
 -- ---- writing
 abbrev pub writtenWords : Written → WrittenWords
@@ -87,9 +88,9 @@ writtenWords (writes.Barred r) = record { refused = numberOf r; length = 0 }
 
 abbrev pub writtenBy : Handed → List ℕ → ℕ → WrittenWords
 writtenBy (Got m) suffix room = writtenWords (writeOf m suffix room)
-writtenBy (Barred n) suffix room = record { refused = n; length = 0 }
+writtenBy (Barred r) suffix room = record { refused = numberOf r; length = 0 }
 
 -- rule 3.51: a refusal is its number, and all stays as it was
 abbrev pub leftWords : Handed → List ℕ → List ℕ → List ℕ
 leftWords (Got m) suffix part = leftBy (writeOf m suffix (length part)) m suffix part
-leftWords (Barred n) suffix part = part
+leftWords (Barred r) suffix part = part

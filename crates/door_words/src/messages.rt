@@ -32,10 +32,10 @@ pub struct MessageWords {
     pub to: usize, // .. and ends
 }
 
-// The message that the words mean, or the number that refuses them.
+// The message that the words mean, or why they mean none.
 pub enum Handed {
     Got(Message),
-    Barred(u8),
+    Barred(Refusal),
 }
 
 #[repr(C)]
@@ -188,17 +188,17 @@ impl MessageWords {
                 body: Body::Announce(stamp, offer),
             });
         }
-        Handed::Barred(Refusal::Kind.number())
+        Handed::Barred(Refusal::Kind)
     }
 
-    // The message again; one that was refused in reading answers its number.
+    // The message again. One that was refused in reading is none, of whatever number: what C puts there may be in no table.
     pub fn message(self) -> Handed
         ensures { λ r. ⌜ r ≡ messageBy self ⌝ }
     {
         if self.refused == 0 {
             return self.kinded();
         }
-        Handed::Barred(self.refused)
+        Handed::Barred(Refusal::Kind)
     }
 
     // Writes the message into the lent part.
@@ -207,7 +207,10 @@ impl MessageWords {
         ensures { λ _. ⌜ now (part .exit) ≡ leftWords (messageBy self) (now (suffix .entry)) (now (part .entry)) ⌝ }
     {
         match self.message() {
-            Handed::Barred(refused) => WrittenWords { refused, length: 0 },
+            Handed::Barred(refusal) => WrittenWords {
+                refused: refusal.number(),
+                length: 0,
+            },
             Handed::Got(m) => match wire_writer::write(m, suffix, part) {
                 Written::Wrote(length) => WrittenWords { refused: 0, length },
                 Written::Barred(number) => WrittenWords {

@@ -20,7 +20,7 @@ distanceOf a b = (a - b) + (b - a)
 -- PATH, of the accepted delays and this one: with none accepted since the wipe it does not apply (rule 7.17)
 unfoldable pub pathBy : List ℕ → ℕ → Bool
 pathBy [] delay = false
-pathBy (last ∷ l) delay = leb 1000000 (distanceOf delay last)
+pathBy (last ∷ l) delay = leb 1_000_000 (distanceOf delay last)
 
 abbrev pub pathOf : Delays → ℕ → Bool
 pathOf d delay = pathBy (acceptedBefore d) delay

@@ -117,7 +117,7 @@ finished x forward sum = bySum (spent x) forward (sumOf sum)
 -- ---- the refusals that are the exchange's own
 -- CORRECTION (rule 3.19)
 abbrev pub correctionOf : ℤ → Bool
-correctionOf c = leb 65536000000000 (natAbs c)
+correctionOf c = leb 65_536_000_000_000 (natAbs c)
 
 abbrev pub correctionIn : Event → Bool
 correctionIn (sync two n c t1 t2) = correctionOf c

@@ -17,7 +17,7 @@ ns z = record { 0 = z }
 
 -- a correction, cut to whole ns (rule 7.10)
 abbrev pub cutOf : ℤ → ℤ
-cutOf correction = floorZ 65536 correction
+cutOf correction = floorZ 65_536 correction
 
 -- rule 7.11
 unfoldable pub forwardOf : Stamp → Stamp → ℤ → ℤ → ℤ
@@ -29,19 +29,19 @@ backOf t3 t4 correction = moment t4 -ℤ moment t3 -ℤ cutOf correction
 
 -- NEG, LONG, or the delay (rules 7.13 to 7.15)
 unfoldable pub sumOf : ℤ → Sum
-sumOf sum = cond (ltZ sum (pos 0)) Neg (cond (ltZ (pos 19999998) sum) Long (Delay (natAbs (halfToEven 2 sum))))
+sumOf sum = cond (ltZ sum (pos 0)) Neg (cond (ltZ (pos 19_999_998) sum) Long (Delay (natAbs (halfToEven 2 sum))))
 
 -- HUGE, of forward less delay (rule 7.16)
 abbrev pub hugeOf : ℤ → Bool
-hugeOf offset = leb 1000000000 (natAbs offset)
+hugeOf offset = leb 1_000_000_000 (natAbs offset)
 
 -- STEP, of the offset (rule 7.24)
 abbrev pub isStep : ℤ → Bool
-isStep offset = ltb 100000000 (natAbs offset)
+isStep offset = ltb 100_000_000 (natAbs offset)
 
 -- how far the code looks: 10^18 ns. proofs/Far.antt shows that no verdict changes by it
 abbrev pub horizon : ℕ
-horizon = 1000000000000000000
+horizon = 1_000_000_000_000_000_000
 
 abbrev pub timesOf : (t1 t2 : Stamp) (sync follow : ℤ) (t3 t4 : Stamp) (response : ℤ) → Times
 timesOf t1 t2 sync follow t3 t4 response =

@@ -238,7 +238,7 @@ yAfter p (q ∷ l) = ahead p -ℤ aheadFirst (q ∷ l)
 -- valid: the reference went on by a second, within the tolerance, and y moved by the spike at most
 abbrev pub validAfter : WatchSettings → Stamps → List Stamps → Bool
 validAfter t p [] = true
-validAfter t p (q ∷ l) = leb (apart (p .reference -ℤ q .reference) (pos 1000000000)) (t .tolerance) && leb (apart (yAfter p (q ∷ l)) (yAfter q l)) (t .spike)
+validAfter t p (q ∷ l) = leb (apart (p .reference -ℤ q .reference) (pos 1_000_000_000)) (t .tolerance) && leb (apart (yAfter p (q ∷ l)) (yAfter q l)) (t .spike)
 
 abbrev pub sampleOf : WatchSettings → Stamps → List Stamps → Sample
 sampleOf t p before = record { reference = p .reference; y = yAfter p before; valid = validAfter t p before }

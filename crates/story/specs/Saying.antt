@@ -106,7 +106,7 @@ module _ (s : Settings) (b : Book) where
   -- ---- what is shown
   abbrev pub overdue : Option ℕ → ℕ → Bool
   overdue none now = false
-  overdue (some last) now = ltb (last + 10000) now
+  overdue (some last) now = ltb (last + 10_000) now
 
   abbrev pub shown : Shown
   shown = cond (overdue (lastMeasured b) (lastNow b)) Holdover (cond (isTracking (ten (offsets b))) Tracking Adjusting)

@@ -62,7 +62,7 @@ unlessBack l t s = cond (isBelow t (lastLocal l)) Back s
 -- PATH, of the last accepted delay and this one (rule 7.17)
 abbrev pub farFrom : Option ℕ → ℕ → Bool
 farFrom none d = false
-farFrom (some last) d = leb 1000000 (distanceOf d last)
+farFrom (some last) d = leb 1_000_000 (distanceOf d last)
 
 -- the delay that is used (rules 7.21 and 7.22)
 abbrev pub usedBy : Option ℕ → List ℕ → ℕ → ℕ

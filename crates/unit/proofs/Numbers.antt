@@ -1,15 +1,24 @@
 -- Numbers, by computation. P1 to P12 together (rules 11.1 to 11.12): one statement over the list, each proved where its rules are. Then the formulas
 -- without memory, each on both sides of each of its boundaries (rule 11.14); what is expected is worked out by hand from the rule that the line cites.
 use mathlib.Core.Path.{_≡_, refl, ap}
-use mathlib.Core.Bool.{true, false}
+use mathlib.Core.Bool.{Bool, true, false}
 use mathlib.Core.List.{List, [], _∷_}
 use Prim.Native.Nat.{ℕ, _+_}
 use lib.IntN.{ℤ, pos, negsuc, negℤ}
 use Rattle.numbers.specs.declared.stamp.Stamp.{Stamp}
+use Rattle.numbers.specs.declared.refusal.Refusal.the-variants.{Now, Faulty, Domain, NotMaster, Field, Room, Own, Alternate, Steps}
+use Rattle.numbers.specs.declared.ruling.Ruling.{Ruling}
+use Rattle.numbers.specs.declared.ruling.Ruling.the-variants.{Clear, Barred}
+use Rattle.numbers.specs.Grounds.{firstOf}
+use Rattle.numbers.specs.Orders.{noneDue, ofExchange, ofTime}
 use Rattle.numbers.specs.Rounding.{roundedOf, halfToEven, floorZ, heldWithin}
 use Rattle.numbers.specs.Stamps.{moment, soundOf, belowOf}
+use Rattle.wire_layout.specs.declared.message.Header.{Header}
+use Rattle.wire_layout.specs.declared.message.Body.the-variants.{Sync, FollowUp, DelayResp}
 use Rattle.rules_masters.specs.declared.record.Record.{Record}
-use Rattle.rules_masters.specs.Records.{intervalOf, liveOf, qualifiedOf, freshRecord}
+use Rattle.rules_masters.specs.Records.{intervalOf, sameKeyOf, liveOf, qualifiedOf, freshRecord}
+use Rattle.rules_masters.specs.Holding.{isMaster}
+use Rattle.rules_masters.specs.Admitting.{alternateOf, groundsWith}
 use Rattle.rules_masters.specs.Comparison.{smaller, betterOf}
 use Rattle.rules_delays.specs.Median.{countBelow, middling, firstMiddling, lowerMiddle}
 use Rattle.rules_delays.specs.Delays.{pathBy, usedBy}
@@ -33,6 +42,12 @@ use Rattle.rules_watch.specs.declared.judging.Outcome.the-variants.{Wipe, Take}
 use Rattle.rules_watch.specs.Rules.{Stamps, freshSince, outsideOf, followed, onLast, inside}
 use Rattle.rules_watch.specs.Watch.{freshWatch, watchAfter, watchLine}
 use Rattle.rules_watch.proofs.Examples.{bench, p11, p12}
+use Rattle.rules_settings.specs.declared.Given.{Given}
+use Rattle.rules_settings.specs.Ranges.{steersOf, watchesOf, bareSettings}
+use Rattle.unit_core.specs.Effects.{Stays}
+use Rattle.unit_choosing.specs.Choosing.{timeDue}
+use Rattle.unit_measuring.specs.Barring.{fieldIn, messageDue, ownDue}
+use Rattle.unit_measuring.specs.Asking.{requestDue}
 
 abbrev pulse : ℕ → ℕ → Stamps
 pulse r y = record { reference = pos r; clock = pos (r + y) }
@@ -262,26 +277,29 @@ unfolding countBelow middling firstMiddling
 medians = (refl, refl, refl, refl, refl, refl, refl, refl)
 
 -- ---- masters
--- a record by what the comparison asks of its Announce
+-- a header by its flags, its domain and its sender; a record by what the comparison asks of its Announce
+abbrev headed : ℕ → ℕ → ℕ → ℕ → Header
+headed flags domain clock number =
+    record {
+      sdo = 0;
+      minor = 0;
+      domain = domain;
+      minorsdo = 0;
+      flags = flags;
+      correction = pos 0;
+      specific = 0;
+      source = record { clock = clock; number = number };
+      sequence = 0;
+      control = 5;
+      interval = pos 0;
+    }
+
 abbrev announcing : ℕ → ℕ → ℕ → ℕ → ℕ → ℕ → ℕ → ℕ → ℕ → Record
 announcing priority1 class accuracy variance priority2 grandmaster steps clock number =
     record {
       announce =
           record {
-            header =
-                record {
-                  sdo = 0;
-                  minor = 0;
-                  domain = 0;
-                  minorsdo = 0;
-                  flags = 0;
-                  correction = pos 0;
-                  specific = 0;
-                  source = record { clock = clock; number = number };
-                  sequence = 0;
-                  control = 5;
-                  interval = pos 0;
-                };
+            header = headed 0 0 clock number;
             stamp = at 0 0;
             offer =
                 record {
@@ -455,3 +473,133 @@ pub first-taken : inside bench freshSince (pos 5_000_000_000) (pos 9_000_000_000
     ≡ Take (pos 4_000_000_000) (record { reference = pos 5_000_000_000; y = pos 0; valid = true })  -- rules 9.2 and 9.3
 unfolding onLast
 first-taken = refl
+
+-- ---- what bars a call. The unit's now is 5,000 and its domain 0; the master, where it has one, is port 1 of the clock 8
+abbrev holding : (some faulty : Bool) → Stays
+holding some faulty = record { now = 5_000; chosen = record { some = some; sender = record { clock = 8; number = 1 } }; faulty = faulty; sequence = 0 }
+
+abbrev heard : Stays → ℕ → Header → Bool → Ruling
+heard k now h field = firstOf (ofExchange (messageDue bareSettings k now h field))
+
+pub messages-barred : (heard (holding true false) 5_000 (headed 0 0 8 1) false ≡ Clear)  -- rule 3.9: an equal now
+    × (heard (holding true false) 4_999 (headed 0 0 8 1) false ≡ Barred Now)  -- rule 3.9
+    × (heard (holding true false) 5_000 (headed 0 0 8 2) false ≡ Barred NotMaster)  -- rule 3.16: another port of it
+    × (heard (holding true false) 5_000 (headed 0 0 9 1) false ≡ Barred NotMaster)  -- rule 3.16
+    × (heard (holding false false) 5_000 (headed 0 0 8 1) false ≡ Barred NotMaster)  -- rule 3.16: there is none
+    × (heard (holding true false) 5_000 (headed 0 1 9 1) false ≡ Barred Domain)  -- rule 3.57: 10 before 16, ..
+    × (heard (holding true true) 5_000 (headed 0 1 9 1) false ≡ Barred Faulty)  -- rule 3.57: .. 18 before it, ..
+    × (heard (holding true true) 4_999 (headed 0 1 9 1) false ≡ Barred Now)  -- rule 3.57: .. then 9, ..
+    × (heard (holding true true) 4_999 (headed 0 1 9 1) true ≡ Barred Field)  -- rule 3.57: .. and 5 first
+unfolding firstOf isMaster sameKeyOf
+messages-barred = (refl, refl, refl, refl, refl, refl, refl, refl, refl)
+
+-- by t2 and the message: one nanosecond or one second too many
+pub fields-asked : (fieldIn (at 7 999_999_999) (Sync (at 7 999_999_999)) ≡ false)  -- rule 3.5
+    × (fieldIn (at 7 1_000_000_000) (Sync (at 7 0)) ≡ true)  -- rule 3.57: t2
+    × (fieldIn (at 7 0) (Sync (at 7 1_000_000_000)) ≡ true)  -- rule 3.67: t1
+    × (fieldIn (at 7 1_000_000_000) (FollowUp (at 7 0)) ≡ false)  -- rule 3.57: it has no t2
+    × (fieldIn (at 7 0) (FollowUp (at 281_474_976_710_656 0)) ≡ true)  -- rule 3.67
+    × (fieldIn (at 7 1_000_000_000) (DelayResp (at 7 0) (record { clock = 8; number = 1 })) ≡ false)  -- rule 3.57
+    × (fieldIn (at 7 0) (DelayResp (at 7 1_000_000_000) (record { clock = 8; number = 1 })) ≡ true)  -- rule 3.67: t4
+unfolding soundOf
+fields-asked = (refl, refl, refl, refl, refl, refl, refl)
+
+abbrev asking : Stays → (now room : ℕ) → Ruling
+asking k now room = firstOf (ofExchange (requestDue k now room))
+
+abbrev sending-off : Stays → ℕ → Bool → Ruling
+sending-off k now field = firstOf (ofExchange (ownDue k now field))
+
+pub own-calls-barred : (asking (holding true false) 5_000 58 ≡ Clear)  -- rules 3.7 and 3.9: 14 octets and 44
+    × (asking (holding true false) 5_000 57 ≡ Barred Room)  -- rule 3.7
+    × (asking (holding true false) 5_000 13 ≡ Barred Room)  -- rule 3.7
+    × (asking (holding false false) 5_000 57 ≡ Barred NotMaster)  -- rule 3.60: 16 before 7, ..
+    × (asking (holding false true) 5_000 57 ≡ Barred Faulty)  -- rule 3.60: .. 18 before it, ..
+    × (asking (holding false true) 4_999 57 ≡ Barred Now)  -- rule 3.60: .. and 9 first
+    × (sending-off (holding true false) 5_000 false ≡ Clear)  -- rule 3.61
+    × (sending-off (holding false false) 5_000 false ≡ Barred NotMaster)  -- rule 3.61
+    × (sending-off (holding false true) 4_999 true ≡ Barred Field)  -- rule 3.61: 5 first
+unfolding firstOf
+own-calls-barred = (refl, refl, refl, refl, refl, refl, refl, refl, refl)
+
+pub times-barred : (firstOf (ofTime (timeDue 5_000 5_000)) ≡ Clear)  -- rule 3.62
+    × (firstOf (ofTime (timeDue 5_000 4_999)) ≡ Barred Now)  -- rule 3.62
+unfolding firstOf
+times-barred = (refl, refl)
+
+-- an Announce at `now` by its flags, domain, sender and stepsRemoved, where the unit is port 1 of the clock 7 and nothing held bars it
+abbrev announced : (now flags domain clock number steps : ℕ) → Ruling
+announced now flags domain clock number steps =
+    firstOf (groundsWith (record { header = headed flags domain clock number; stamp = at 0 0; offer = announcing 1 6 33 20_061 128 8 steps 8 1 .announce .offer }) 0 (record { clock = 7; number = 1 }) 5_000 now noneDue)
+
+pub announces-barred : (announced 5_000 0 0 8 1 0 ≡ Clear)  -- rule 3.9
+    × (announced 4_999 0 0 8 1 0 ≡ Barred Now)  -- rule 3.9
+    × (announced 5_000 0 1 8 1 0 ≡ Barred Domain)  -- rule 3.10
+    × (announced 5_000 0 0 7 2 0 ≡ Barred Own)  -- rule 3.11: whatever its port
+    × (announced 5_000 256 0 8 1 0 ≡ Barred Alternate)  -- rules 2.3 and 3.12: the lowest bit of octet 6
+    × (announced 5_000 65_279 0 8 1 0 ≡ Clear)  -- rules 2.3 and 3.12: all other bits
+    × (announced 5_000 0 0 8 1 254 ≡ Clear)  -- rule 3.13
+    × (announced 5_000 0 0 8 1 255 ≡ Barred Steps)  -- rule 3.13
+    × (announced 5_000 256 0 8 1 255 ≡ Barred Alternate)  -- rule 3.56: 12 before 13, ..
+    × (announced 5_000 256 0 7 1 255 ≡ Barred Own)  -- rule 3.56: .. 11 before it, ..
+    × (announced 5_000 256 1 7 1 255 ≡ Barred Domain)  -- rule 3.56: .. then 10, ..
+    × (announced 4_999 256 1 7 1 255 ≡ Barred Now)  -- rule 3.56: .. and 9 first
+unfolding firstOf alternateOf
+announces-barred = (refl, refl, refl, refl, refl, refl, refl, refl, refl, refl, refl, refl)
+
+-- ---- the settings: announce and sync exponents, Kp, Ki, limit; then W, minimum, holdoff, tolerance, spike, jump
+abbrev given-as : ℤ → ℤ → ℤ → ℤ → ℤ → ℤ → ℤ → ℤ → ℤ → ℤ → ℤ → Given
+given-as announce sync kp ki limit window minimum holdoff tolerance spike jump =
+    record {
+      domain = 0;
+      own = record { clock = 7; number = 1 };
+      announce = announce;
+      sync = sync;
+      kp = kp;
+      ki = ki;
+      limit = limit;
+      window = window;
+      minimum = minimum;
+      holdoff = holdoff;
+      tolerance = tolerance;
+      spike = spike;
+      jump = jump;
+    }
+
+abbrev steers : ℤ → ℤ → ℤ → ℤ → ℤ → Bool
+steers announce sync kp ki limit = steersOf (given-as announce sync kp ki limit (pos 0) (pos 0) (pos 0) (pos 0) (pos 0) (pos 0))
+
+pub steering-ranges : (steers (pos 0) (pos 0) (pos 100) (pos 10) (pos 1) ≡ true)  -- rules 4.3 to 4.7: the lower ends
+    × (steers (pos 4) (pos 7) (pos 1_000) (pos 500) (pos 100_000) ≡ true)  -- rules 4.3 to 4.7: the upper ends
+    × (steers (minus 1) (pos 0) (pos 100) (pos 10) (pos 1) ≡ false)  -- rule 4.3
+    × (steers (pos 5) (pos 0) (pos 100) (pos 10) (pos 1) ≡ false)  -- rule 4.3
+    × (steers (pos 0) (minus 1) (pos 100) (pos 10) (pos 1) ≡ false)  -- rule 4.4
+    × (steers (pos 0) (pos 8) (pos 100) (pos 10) (pos 1) ≡ false)  -- rule 4.4
+    × (steers (pos 0) (pos 0) (pos 99) (pos 10) (pos 1) ≡ false)  -- rule 4.5
+    × (steers (pos 0) (pos 0) (pos 1_001) (pos 10) (pos 1) ≡ false)  -- rule 4.5
+    × (steers (pos 0) (pos 0) (pos 100) (pos 9) (pos 1) ≡ false)  -- rule 4.6
+    × (steers (pos 0) (pos 0) (pos 100) (pos 501) (pos 1) ≡ false)  -- rule 4.6
+    × (steers (pos 0) (pos 0) (pos 100) (pos 10) (pos 0) ≡ false)  -- rule 4.7
+    × (steers (pos 0) (pos 0) (pos 100) (pos 10) (pos 100_001) ≡ false)  -- rule 4.7
+unfolding steersOf
+steering-ranges = (refl, refl, refl, refl, refl, refl, refl, refl, refl, refl, refl, refl)
+
+abbrev watches : ℤ → ℤ → ℤ → ℤ → ℤ → ℤ → Bool
+watches window minimum holdoff tolerance spike jump = watchesOf (given-as (pos 0) (pos 0) (pos 0) (pos 0) (pos 0) window minimum holdoff tolerance spike jump)
+
+pub watching-ranges : (watches (pos 2) (pos 2) (pos 0) (pos 0) (pos 1) (pos 2) ≡ true)  -- rules 4.8 to 4.13: the lower ends
+    × (watches (pos 128) (pos 128) (pos 10) (pos 100_000_000) (pos 999_999_998) (pos 999_999_999) ≡ true)  -- rules 4.8 to 4.13: the upper ends
+    × (watches (pos 1) (pos 2) (pos 0) (pos 0) (pos 1) (pos 2) ≡ false)  -- rule 4.8
+    × (watches (pos 129) (pos 2) (pos 0) (pos 0) (pos 1) (pos 2) ≡ false)  -- rule 4.8
+    × (watches (pos 2) (pos 1) (pos 0) (pos 0) (pos 1) (pos 2) ≡ false)  -- rule 4.9
+    × (watches (pos 8) (pos 9) (pos 0) (pos 0) (pos 1) (pos 2) ≡ false)  -- rule 4.9: over W
+    × (watches (pos 2) (pos 2) (minus 1) (pos 0) (pos 1) (pos 2) ≡ false)  -- rule 4.10
+    × (watches (pos 2) (pos 2) (pos 11) (pos 0) (pos 1) (pos 2) ≡ false)  -- rule 4.10
+    × (watches (pos 2) (pos 2) (pos 0) (minus 1) (pos 1) (pos 2) ≡ false)  -- rule 4.11
+    × (watches (pos 2) (pos 2) (pos 0) (pos 100_000_001) (pos 1) (pos 2) ≡ false)  -- rule 4.11
+    × (watches (pos 2) (pos 2) (pos 0) (pos 0) (pos 0) (pos 2) ≡ false)  -- rule 4.12
+    × (watches (pos 2) (pos 2) (pos 0) (pos 0) (pos 999_999_999) (pos 1_000_000_000) ≡ false)  -- rules 4.12 and 4.13
+    × (watches (pos 2) (pos 2) (pos 0) (pos 0) (pos 5) (pos 5) ≡ false)  -- rule 4.13: not above the spike
+    × (watches (pos 2) (pos 2) (pos 0) (pos 0) (pos 5) (pos 1_000_000_000) ≡ false)  -- rule 4.13
+unfolding watchesOf
+watching-ranges = (refl, refl, refl, refl, refl, refl, refl, refl, refl, refl, refl, refl, refl, refl)

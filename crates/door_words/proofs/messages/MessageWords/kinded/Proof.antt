@@ -30,15 +30,11 @@ returns-5 : tie.Need-returns-5
 unfolding byKind
 returns-5 c = rw (c .before .if5 .taken)
 
--- src/messages.rt:156:24
-number-requires : tie.Need-number-requires
-number-requires c κs = search needs
-
 -- src/messages.rt:134:5
 returns-6 : tie.Need-returns-6
 unfolding byKind
-returns-6 c = simp (ne-eqb _ 0 (c .before .before .before .before .before .before .before .before .before .if1 .left), ne-eqb _ 1 (c .before .before .before .before .before .before .before .if2 .left), ne-eqb _ 8 (c .before .before .before .before .before .if3 .left), ne-eqb _ 9 (c .before .before .before .if4 .left), ne-eqb _ 11 (c .before .if5 .left), c .number .ensures)
+returns-6 c = simp (ne-eqb _ 0 (c .before .before .before .before .before .before .before .before .if1 .left), ne-eqb _ 1 (c .before .before .before .before .before .before .if2 .left), ne-eqb _ 8 (c .before .before .before .before .if3 .left), ne-eqb _ 9 (c .before .before .if4 .left), ne-eqb _ 11 (c .if5 .left))
 
 pub kinded-spec : {M : Type 1} → statement M
 kinded-spec =
-    tie.close (tie.spec returns returns-2 returns-3 returns-4 returns-5 number-requires returns-6)
+    tie.close (tie.spec returns returns-2 returns-3 returns-4 returns-5 returns-6)

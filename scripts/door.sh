@@ -15,11 +15,13 @@ work=$(mktemp -d)
 trap 'rm -rf "$work"' EXIT
 . scripts/library.sh
 
-# try COMPILER LANGUAGE STANDARD: the header, and a program that links with the library
+# try COMPILER LANGUAGE STANDARD: the header, and a program that links with the library. It is linked as C whatever it is written in: it
+# asks nothing of a C++ library, and not every cross compiler can link that statically.
 try() {
   printf '#include "sinezhab.h"\nint main(void) { return sinezhab_version() != SINEZHAB_VERSION; }\n' >"$work/version.$2"
   "$1" -std="$3" -Wall -Wextra -Wpedantic -Werror -ffreestanding -fsyntax-only -Idoor "$work/version.$2"
-  "$1" -std="$3" -Wall -Wextra -Wpedantic -Werror $static -Idoor "$work/version.$2" "$LIB" -o "$work/version"
+  "$1" -std="$3" -Wall -Wextra -Wpedantic -Werror -Idoor -c "$work/version.$2" -o "$work/version.o"
+  "${tools}gcc" $static "$work/version.o" "$LIB" -o "$work/version"
   "${run[@]}" "$work/version" || { echo "header: as $3, its version is not the library's"; exit 1; }
   tried="${tried:+$tried, }$3"
 }

@@ -52,4 +52,4 @@ compile "$work/loop" examples/loop.c
 diff "$work/hall" examples/hall.out || { echo "loop: not what examples/hall.out has (< given, > stored)"; exit 1; }
 echo "loop: $(wc -l <examples/hall.out) lines to examples/hall.events are those of examples/hall.out"
 
-LIB=$LIB scripts/fuzz.sh 20000
+LIB=$LIB scripts/fuzz.sh 5000

@@ -1,7 +1,7 @@
 #!/usr/bin/env bash
 # Tries wrong rules that are put into the code and into the definitions of its contract alike: the crate that has them proves them, and
-# one above it must refuse: the story, which is told from the calls and answers alone, the unit, which has numbers for what story and code
-# share, or the settings. Each takes some minutes.
+# one above it must refuse: the story, which is told from the calls and answers alone, the unit, the settings, or demands, which has numbers
+# for what story and code share. Each takes some minutes.
 # Usage: scripts/wrong-rules.sh
 # Needs the kit (rt, or what RT names). What target/ has proved is not proved again. Status 1 where nothing refuses.
 set -euo pipefail
@@ -54,6 +54,6 @@ try minimum_one_too_low rules_watch rules_settings \
   rules_watch/src/settings.rt 'if self.minimum < 2 { 2 } else { self.minimum }' 'if self.minimum < 3 { 2 } else { self.minimum - 1 }' \
   rules_watch/specs/Settings.antt 'leastOf t = max 2 (t .minimum)' 'leastOf t = max 2 (t .minimum - 1)' \
   rules_watch/specs/Settings.antt 'use Prim.Native.Nat.{ℕ, min, max}' 'use Prim.Native.Nat.{ℕ, _-_, min, max}'
-try steps_of_254 rules_masters unit \
+try steps_of_254 rules_masters demands \
   rules_masters/src/admission.rt 'if 255 <= announce.offer.steps' 'if 254 <= announce.offer.steps' \
   rules_masters/specs/Admitting.antt 'leb 255 (m .offer .steps)' 'leb 254 (m .offer .steps)'

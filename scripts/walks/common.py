@@ -13,7 +13,7 @@ def leaves(left, answer, table=False):
 
 
 ANNOUNCE = leaves('announcedIn {0} {1} {2} {3} {4} {5}', 6, table=True)
-HOLD = leaves('heldIn {0} {1} [] {2} {3}', 4)
+HOLD = leaves('lentBy {0} {1} [] {2} {3}', 4)
 MEASURE = leaves('heardIn {0} {1} [] {2} {3} {4} {5}', 6)
 SENT = leaves('sentOf {0} {1} {2} {3} {4} {5}', 6)
 PULSE = leaves('tickOf {0} {1} {2} {3} {4}', 5)

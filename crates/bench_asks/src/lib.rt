@@ -9,10 +9,10 @@ use numbers::refusal::Refusal;
 use rules_settings::Given;
 use rules_settings::Set;
 use rules_settings::Settings;
-use unit::handing::Asked;
-use unit::handing::receive;
-use unit::handing::time;
 use unit_core::calls::Call as UnitCall;
+use unit_handing::Asked;
+use unit_handing::receive;
+use unit_handing::time;
 
 pub enum Asks {
     Bad, // the line is no call

@@ -18,9 +18,9 @@ heldByUnit (Tick r c) = 0
 heldByUnit Line = 0
 heldByUnit Show = 0
 
-abbrev pub heldBy : Call → ℕ
-heldBy Bad = 0
-heldBy (Lend n) = 0
-heldBy (Read n) = n
-heldBy (Write m n room) = n
-heldBy (CallToUnit c) = heldByUnit c
+abbrev pub heldByCall : Call → ℕ
+heldByCall Bad = 0
+heldByCall (Lend n) = 0
+heldByCall (Read n) = n
+heldByCall (Write m n room) = n
+heldByCall (CallToUnit c) = heldByUnit c

@@ -14,7 +14,7 @@ use words::number;
 use words::octets_at;
 use words::unsigned8;
 ghost use Prim.Native.Nat.{_≤_};
-ghost use Rattle.bench_calls.specs.Held.{heldBy};
+ghost use Rattle.bench_calls.specs.Held.{heldByCall};
 
 // Where the octets of a call are put: more than the longest line can have.
 pub type Store = [u8; 131_072];
@@ -29,7 +29,7 @@ pub enum Call {
 }
 
 fn lend(s: &[u8], at: usize) -> Call
-    ensures { λ r. ⌜ heldBy r ≤ 131_072 ⌝ }
+    ensures { λ r. ⌜ heldByCall r ≤ 131_072 ⌝ }
 {
     let count = number(s, at, 8);
     if count.next == s.len() {
@@ -39,7 +39,7 @@ fn lend(s: &[u8], at: usize) -> Call
 }
 
 fn read(s: &[u8], at: usize, octets: &mut Store) -> Call
-    ensures { λ r. ⌜ heldBy r ≤ 131_072 ⌝ }
+    ensures { λ r. ⌜ heldByCall r ≤ 131_072 ⌝ }
 {
     let message = octets_at(s, at, octets);
     if message.next == s.len() {
@@ -49,7 +49,7 @@ fn read(s: &[u8], at: usize, octets: &mut Store) -> Call
 }
 
 fn write(s: &[u8], at: usize, octets: &mut Store) -> Call
-    ensures { λ r. ⌜ heldBy r ≤ 131_072 ⌝ }
+    ensures { λ r. ⌜ heldByCall r ≤ 131_072 ⌝ }
 {
     let kind = unsigned8(s, at);
     let head = header_words(s, kind.next);
@@ -68,7 +68,7 @@ fn write(s: &[u8], at: usize, octets: &mut Store) -> Call
 
 // The call that the line is; its octets lie within the store.
 pub fn call_of(s: &[u8], octets: &mut Store) -> Call
-    ensures { λ r. ⌜ heldBy r ≤ 131_072 ⌝ }
+    ensures { λ r. ⌜ heldByCall r ≤ 131_072 ⌝ }
 {
     if begins(s, b"lend") {
         return lend(s, 4);

@@ -15,8 +15,8 @@ use bench_text::text;
 use rules_settings::Settings;
 use unit::Stepped;
 use unit::Unit;
-use unit::handing::Asked;
 use unit::request_into;
+use unit_handing::serve;
 
 pub struct Desk {
     pub length: usize, // of a line that is not yet whole
@@ -78,15 +78,6 @@ impl Desk {
         }
     }
 
-    fn makes(mut self, out: &mut Out, settings: Settings) -> Desk
-        ensures { λ r. ⌜ r .at ≤ 65_536 ⌝ }
-    {
-        self.unit = Unit::fresh(settings);
-        self.made = true;
-        self.at = text(out, self.at, b"ok");
-        self
-    }
-
     // The unit as a call left it, and what it answered; `frame` is what was lent for a request.
     fn hears(mut self, out: &mut Out, stepped: Stepped, frame: &[u8]) -> Desk
         ensures { λ r. ⌜ r .at ≤ 65_536 ⌝ }
@@ -109,21 +100,19 @@ impl Desk {
         self.hears(out, stepped, frame)
     }
 
-    fn calls(self, out: &mut Out, asked: Asked) -> Desk
-        ensures { λ r. ⌜ r .at ≤ 65_536 ⌝ }
-    {
-        let unit = self.unit;
-        self.hears(out, unit.serve(asked), b"")
-    }
-
     // A line to the unit. A refused `unit` line leaves the unit that was there.
     fn plays(mut self, out: &mut Out, asks: Asks) -> Desk
         ensures { λ r. ⌜ r .at ≤ 65_536 ⌝ }
     {
         match asks {
-            Asks::Make(settings) => self.makes(out, settings),
+            Asks::Make(settings) => {
+                self.unit = Unit::fresh(settings);
+                self.made = true;
+                self.at = text(out, self.at, b"ok");
+                self
+            }
             Asks::Request(now, length) => self.requests(out, now, length),
-            Asks::Unit(asked) => self.calls(out, asked),
+            Asks::Unit(asked) => self.hears(out, serve(self.unit, asked), b""),
             _ => {
                 self.at = unasked(out, self.at, asks);
                 self

@@ -42,9 +42,9 @@ use Rattle.unit_core.specs.Wipe.{oneMore}
 use Rattle.unit_core.specs.Answers.{isRefusal, wipesOf}
 use Rattle.unit_measuring.specs.Frame.{framed}
 use Rattle.unit.specs.declared.Unit.{Unit}
-use Rattle.unit.specs.Handing.{Handed, request, reset, line, askedOf, servedOf, frameIn, frameLeft, servedAll}
-use Rattle.unit.proofs.Served.{refusal-keeps-frame}
-use Rattle.unit.proofs.Served as served
+use Rattle.unit_handing.specs.Handing.{Handed, request, reset, line, askedOf, servedOf, frameIn, frameLeft, servedAll}
+use Rattle.unit_handing.proofs.Served.{refusal-keeps-frame}
+use Rattle.unit_handing.proofs.Served as served
 use Rattle.story.specs.Book.{sequence}
 use Rattle.story.specs.Tale.{book, answerTo, answerByHistory}
 use Rattle.story.proofs.Refines.{unit-refines}

@@ -39,7 +39,7 @@ use Rattle.unit_measuring.specs.Frame.{frameBy}
 use Rattle.unit_measuring.specs.Inner.{messageGrounds, handed}
 use Rattle.unit_ticking.proofs.Pulses.{byTest, every-outcome}
 use Rattle.unit.proofs.Refusals.{never}
-use Rattle.unit.specs.Handing.{Handed, receive, request, sent, time, reset, tick, line, show, frameIn}
+use Rattle.unit_handing.specs.Handing.{Handed, receive, request, sent, time, reset, tick, line, show, frameIn}
 use Rattle.wire_frames.specs.Frames.{requestOf as delayReq}
 use Rattle.door_records.specs.declared.unit.UnitWords.{UnitWords}
 use Rattle.door_records.specs.declared.unit.StateWords.{StateWords}
@@ -56,7 +56,7 @@ use Rattle.door_choosing.specs.Choosing.{heldBy, heldOf, heldUnless, untabledOf
 use Rattle.door_measuring.specs.declared.measuring.Told.{Told}
 use Rattle.door_measuring.specs.Measuring.{toldBy, unlessTold, heardTold, sentTold, servoAfter}
 use Rattle.door_measuring.specs.Asking.{requestedBy}
-use Rattle.door_loop.specs.Lending.{Lent, says, unitWith, spokenIn, toldIn, heldIn, chosenIn, placedIn, seatIn, seatedIn, openIn, receivedIn, receiveOf, timeOf, requestOf, sentOf, tickedIn, tickOf}
+use Rattle.door_loop.specs.Lending.{Lent, says, unitWith, spokenIn, toldIn, lentBy, chosenIn, placedIn, seatIn, seatedIn, openIn, receivedIn, receiveOf, timeOf, unitAsking, sentOf, tickedIn, tickOf}
 use Rattle.door_loop.specs.Loop.{Parts, Table, own, stray, lends}
 use Rattle.demands.specs.Words.{isRefused, strayIn}
 
@@ -109,16 +109,16 @@ module _ (u : UnitWords) (v : Servo) (w : Watch) where
         go false e = λ h. absurd (never (sym e ∙ h))
 
     -- ---- the choice
-    not-held : (x : List MasterWords) (s : StateWords) (now : ℕ) (c : Chosen) → isRefused (heldIn u v x w (heldOf s now c) .answer) ≡ true → ⊥
+    not-held : (x : List MasterWords) (s : StateWords) (now : ℕ) (c : Chosen) → isRefused (lentBy u v x w (heldOf s now c) .answer) ≡ true → ⊥
     unfolding heldOf
-    not-held x s now c = byTest (λ (d : Decision). isRefused (heldIn u v x w (heldBy s now c d) .answer) ≡ true → ⊥) (sameMasterOf _ c) never never
+    not-held x s now c = byTest (λ (d : Decision). isRefused (lentBy u v x w (heldBy s now c d) .answer) ≡ true → ⊥) (sameMasterOf _ c) never never
 
     kept-seated : (m : Message) (now : ℕ) (p : Seated) → Kept (seatedIn u v t w m now p)
     kept-seated m now p =
         byTest Kept (p .barred) (kept-says (refusing (p .number)))
         (λ h. absurd (not-held (placedIn t m now p) (u .state) now (chosenIn u (placedIn t m now p) now) h))
 
-    kept-timed : (now : ℕ) (r : Ruling) (c : Chosen) → Kept (heldIn u v t w (heldUnless (u .state) r (heldOf (u .state) now c)))
+    kept-timed : (now : ℕ) (r : Ruling) (c : Chosen) → Kept (lentBy u v t w (heldUnless (u .state) r (heldOf (u .state) now c)))
     kept-timed now Clear c = λ h. absurd (not-held t (u .state) now c h)
     kept-timed now (Barred n) c = λ h. (refl, refl, refl, refl)
 
@@ -193,7 +193,7 @@ module _ (p : Parts) where
   refusal-keeps-parts (request frame now) h =
       let r = firstOf (requestGrounds (staysOf (coreOf (p .unit .settings) (p .unit .state) (p .unit .halves) (delaysWords freshExchange))) now (length frame)) in
       let k = kept-request (p .unit) (p .servo) (p .watch) now r h (delayReq (p .unit .settings .domain) (ownIn (p .unit .settings)) (p .unit .state .sequence)) frame in
-      (same-parts p (requestOf (p .unit) now (length frame)) (p .servo) (p .table) (p .watch) (k .0) refl refl refl, k .1, refl)
+      (same-parts p (unitAsking (p .unit) now (length frame)) (p .servo) (p .table) (p .watch) (k .0) refl refl refl, k .1, refl)
   refusal-keeps-parts (sent now sequence t3) h =
       let k = kept-sent (p .unit) (p .servo) (p .watch) now sequence t3 in (turned-same [] (sentOf (p .unit) (p .servo) (p .watch) now sequence t3) k h, refl, k h .2)
   refusal-keeps-parts (time own now) h = (lent-same (timeOf (p .unit) (p .servo) (p .table) (p .watch) now) (kept-time (p .unit) (p .servo) (p .watch) (p .table) now) h, refl, refl)

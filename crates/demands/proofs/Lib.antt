@@ -1,4 +1,4 @@
--- The theorems: Demands states them, and the files before it prove what it cites.
+-- The theorems: Demands states them, and the files before it prove what it cites; Numbers holds the formulas to numbers.
 mod Refusing
 mod Requests
 mod Lines
@@ -10,3 +10,4 @@ mod Limiting
 mod Samples
 mod Parts
 pub mod Demands
+pub mod Numbers

@@ -41,8 +41,8 @@ use Rattle.unit_measuring.specs.Hearing.{twoStepIn}
 use Rattle.unit_measuring.specs.Asking.{requestDue}
 use Rattle.unit_ticking.specs.Ticking.{lineBy}
 use Rattle.unit_ticking.proofs.Pulses.{byTest}
-use Rattle.unit.specs.declared.handing.Asked.{Asked}
-use Rattle.unit.specs.declared.handing.Asked.the-variants.{Barred, Asks}
+use Rattle.unit_handing.specs.declared.Asked.{Asked}
+use Rattle.unit_handing.specs.declared.Asked.the-variants.{Barred, Asks}
 use Rattle.story_exchange.specs.Rules.{answer as exchangeAnswer}
 use Rattle.story_servo.specs.Offsets.{output}
 use Rattle.story_servo.proofs.Refines.{machine, tells as servo-tells}

@@ -24,7 +24,7 @@ use Rattle.rules_settings.specs.Ranges.{asGiven, settingsOf}
 use Rattle.rules_settings.proofs.Accepting.{accepted-size, accepted-least, accepted-wait}
 use Rattle.unit_core.specs.declared.calls.Answer.the-variants.{Line}
 use Rattle.unit_ticking.specs.Ticking.{lineBy}
-use Rattle.unit.specs.Handing.{Handed, line, askedOf, servedOf}
+use Rattle.unit_handing.specs.Handing.{Handed, line, askedOf, servedOf}
 use Rattle.story.specs.Book.{samples}
 use Rattle.story.specs.Saying.{answer}
 use Rattle.story.specs.Tale.{book, answerByHistory}

@@ -13,7 +13,7 @@ use Rattle.rules_settings.specs.declared.Settings.{Settings}
 use Rattle.unit_core.specs.declared.calls.Answer.{Answer}
 use Rattle.unit_core.specs.Answers.{wipesOf}
 use Rattle.unit.specs.declared.Unit.{Unit}
-use Rattle.unit.specs.Handing.{Handed, line, askedOf, servedOf, servedAll}
+use Rattle.unit_handing.specs.Handing.{Handed, line, askedOf, servedOf, servedAll}
 use Rattle.door_records.specs.Unit.{coreIn}
 use Rattle.door_words.specs.Answers.{refusing, answerWords}
 use Rattle.door_loop.specs.Loop.{Parts, unitIn, Table, countedIn, lends, looped, Meant, means}

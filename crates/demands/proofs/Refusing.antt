@@ -15,7 +15,7 @@ use Rattle.wire_layout.specs.declared.message.Written.the-variants as writes
 use Rattle.wire_layout.specs.Writing.{writeOf, leftBy}
 use Rattle.rules_settings.specs.declared.Given.{Given}
 use Rattle.rules_settings.specs.declared.Set.the-variants.{Accepted, Refused as NotSet}
-use Rattle.rules_settings.specs.Ranges.{steersOf, watchesOf, asGiven, settingsOf}
+use Rattle.rules_settings.specs.Ranges.{steeringFits, watchFits, asGiven, settingsOf}
 use Rattle.rules_settings.proofs.Accepting.{settings-is}
 use Rattle.unit_core.specs.declared.calls.Answer.{Answer}
 use Rattle.unit_core.specs.declared.calls.Answer.the-variants as answers
@@ -58,7 +58,7 @@ in-table refusals.Tick = (omega arith, omega arith)
 in-table refusals.NotReady = (omega arith, omega arith)
 
 pub set-or-not : (g : Given) → (settingsOf g ≡ Accepted (asGiven g)) ⊎ (settingsOf g ≡ NotSet refusals.Settings)
-set-or-not g = go (steersOf g && watchesOf g) (settings-is g)
+set-or-not g = go (steeringFits g && watchFits g) (settings-is g)
   where
     go : (b : Bool) → settingsOf g ≡ cond b (Accepted (asGiven g)) (NotSet refusals.Settings) → (settingsOf g ≡ Accepted (asGiven g)) ⊎ (settingsOf g ≡ NotSet refusals.Settings)
     go true h = inl h

@@ -29,11 +29,11 @@ use Rattle.unit_measuring.proofs.Room.{room-bars}
 use Rattle.unit_measuring.specs.Frame.{framed, frameBy}
 use Rattle.unit.specs.declared.Unit.{Unit}
 use Rattle.unit.specs.Calls.{freshUnit, applied}
-use Rattle.unit.specs.Handing.{Handed, request, askedOf, servedOf, frameLeft, callsIn}
+use Rattle.unit_handing.specs.Handing.{Handed, request, askedOf, servedOf, frameLeft, callsIn}
 use Rattle.unit.specs.Machine.{past}
 use Rattle.unit.proofs.Refusals.{never}
 use Rattle.unit.proofs.Simulation.{Tells, all-told}
-use Rattle.unit.proofs.Served.{served-is}
+use Rattle.unit_handing.proofs.Served.{served-is}
 use Rattle.story.specs.Book.{sequence}
 use Rattle.story.specs.Tale.{book}
 use Rattle.story.proofs.Refines.{past-tells}

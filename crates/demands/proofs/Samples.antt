@@ -14,14 +14,14 @@ use Rattle.unit_core.specs.declared.calls.Call.the-variants.{Receive, Request, 
 use Rattle.unit_core.specs.declared.calls.Answer.{Answer}
 use Rattle.unit_core.specs.declared.calls.Answer.the-variants as answers
 use Rattle.unit_core.specs.Answers.{isRefusal, wipesOf}
-use Rattle.unit.specs.declared.handing.Asked.{Asked}
-use Rattle.unit.specs.declared.handing.Asked.the-variants.{Barred, Asks}
-use Rattle.unit.specs.Handing.{Handed, askedOf}
+use Rattle.unit_handing.specs.declared.Asked.{Asked}
+use Rattle.unit_handing.specs.declared.Asked.the-variants.{Barred, Asks}
+use Rattle.unit_handing.specs.Handing.{Handed, askedOf}
 use Rattle.unit.proofs.Refusals.{never}
 use Rattle.story_lists.specs.Reading.{all, since}
 use Rattle.story.specs.Book.{Book, entry, sinceWipe, aPulse, samplesOf, sampleOf}
 use Rattle.story.specs.Saying.{answer}
-use Rattle.story.specs.Tale.{bookWith, answerTo, writtenBy, book, answerByHistory}
+use Rattle.story.specs.Tale.{bookWith, answerTo, bookBy, book, answerByHistory}
 use Rattle.demands.specs.Words.{takenIn}
 
 module _ (s : Settings) (b : Book) where
@@ -75,11 +75,11 @@ module _ (s : Settings) (b : Book) where
   unfolding since all samplesOf
   call-emptied call a h = rw (wipe-written a h, h)
 
-  asked-grown : (a : Asked) → wipesOf (answerTo s b a) ≡ false → Longer (writtenBy s b a)
+  asked-grown : (a : Asked) → wipesOf (answerTo s b a) ≡ false → Longer (bookBy s b a)
   asked-grown (Barred r) h = nothing-new
   asked-grown (Asks call) h = call-grown call (answer s b call) h
 
-  asked-emptied : (a : Asked) → wipesOf (answerTo s b a) ≡ true → takenIn s (writtenBy s b a) ≡ []
+  asked-emptied : (a : Asked) → wipesOf (answerTo s b a) ≡ true → takenIn s (bookBy s b a) ≡ []
   asked-emptied (Barred r) h = absurd (never h)
   asked-emptied (Asks call) h = call-emptied call (answer s b call) h
 

@@ -40,10 +40,10 @@ use Rattle.unit_core.specs.declared.calls.Answer.the-variants as answers
 use Rattle.unit_core.specs.Effects.{Stays, Effect, keeps, goes, takes, wipes, staysOf}
 use Rattle.unit_ticking.specs.Ticking.{ticks, lineBy}
 use Rattle.unit.specs.declared.Unit.{Unit}
-use Rattle.unit.specs.declared.handing.Asked.{Asked}
-use Rattle.unit.specs.declared.handing.Asked.the-variants.{Barred, Asks}
+use Rattle.unit_handing.specs.declared.Asked.{Asked}
+use Rattle.unit_handing.specs.declared.Asked.the-variants.{Barred, Asks}
 use Rattle.unit.specs.Calls.{watchBy, applied, unitEffect, unitTable, stepOf}
-use Rattle.unit.specs.Handing.{Handed, receive, request, sent, time, reset, tick, line, show, unlessBarred, isDelayReq, isStray, messageAsked, readAsked, timeAsked, askedOf, steppedBy, servedOf, servedAll}
+use Rattle.unit_handing.specs.Handing.{Handed, receive, request, sent, time, reset, tick, line, show, unlessBarred, isDelayReq, isStray, messageAsked, readAsked, timeAsked, askedOf, steppedBy, servedOf, servedAll}
 use Rattle.unit.proofs.Fair.{Fair}
 use Rattle.unit.proofs.Fairly.{most, fair}
 use Rattle.door_loop.specs.Loop.{Table, countedIn}

@@ -30,11 +30,11 @@ use Rattle.unit_core.specs.Wipe.{oneMore}
 use Rattle.unit_core.specs.Effects.{Effect, keeps, goes, takes, wipes, staysOf, progressOf}
 use Rattle.unit_core.specs.Answers.{isRefusal, wipesOf}
 use Rattle.unit.specs.declared.Unit.{Unit}
-use Rattle.unit.specs.declared.handing.Asked.{Asked as Asking}
-use Rattle.unit.specs.declared.handing.Asked.the-variants.{Barred, Asks}
+use Rattle.unit_handing.specs.declared.Asked.{Asked as Asking}
+use Rattle.unit_handing.specs.declared.Asked.the-variants.{Barred, Asks}
 use Rattle.unit.specs.declared.Stepped.{Stepped}
 use Rattle.unit.specs.Calls.{applied, unitEffect, unitTable, stepOf}
-use Rattle.unit.specs.Handing.{Handed, receive, request, sent, time, reset, tick, line, show, unlessBarred, isDelayReq, isStray, messageAsked, readAsked, timeAsked, askedOf, steppedBy, servedOf}
+use Rattle.unit_handing.specs.Handing.{Handed, receive, request, sent, time, reset, tick, line, show, unlessBarred, isDelayReq, isStray, messageAsked, readAsked, timeAsked, askedOf, steppedBy, servedOf}
 use Rattle.unit.specs.Machine.{isWipe}
 use Rattle.unit.proofs.Refusals.{never}
 use Rattle.unit.proofs.Faults.{faulty-lasts}

@@ -23,10 +23,10 @@ use Rattle.rules_settings.specs.Ranges.{asGiven}
 use Rattle.unit_core.specs.declared.calls.Answer.{Answer}
 use Rattle.unit_core.specs.declared.calls.Answer.the-variants.{Refused, Choice, Exchange, Watch, Wiped, Line, Shows}
 use Rattle.unit.specs.declared.Unit.{Unit}
-use Rattle.unit.specs.declared.handing.Asked.{Asked}
-use Rattle.unit.specs.declared.handing.Asked.the-variants.{Barred, Asks}
+use Rattle.unit_handing.specs.declared.Asked.{Asked}
+use Rattle.unit_handing.specs.declared.Asked.the-variants.{Barred, Asks}
 use Rattle.unit.specs.Calls.{freshUnit, unitTable}
-use Rattle.unit.specs.Handing.{Handed, receive, request, sent, time, reset, tick, line, show, servedAll}
+use Rattle.unit_handing.specs.Handing.{Handed, receive, request, sent, time, reset, tick, line, show, servedAll}
 use Rattle.story.specs.Book.{Book, samples, wipeCount}
 use Rattle.story.specs.Tale.{book}
 use Rattle.door_records.specs.declared.masters.MasterWords.{MasterWords}

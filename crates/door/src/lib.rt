@@ -10,7 +10,7 @@ ghost use Rattle.door_core.specs.Making.{madeOf};
 ghost use Rattle.door_measuring.specs.Asking.{requestedOf};
 ghost use Rattle.door_core.specs.Showing.{shownOf};
 ghost use Rattle.door_core.specs.Ticking.{linedOf};
-ghost use Rattle.door_loop.specs.Lending.{receiveOf, timeOf, requestOf, sentOf, resetOf, tickOf};
+ghost use Rattle.door_loop.specs.Lending.{receiveOf, timeOf, unitAsking, sentOf, resetOf, tickOf};
 use door_core::making;
 use door_core::making::Made;
 use door_core::receiving;
@@ -145,7 +145,7 @@ pub extern "C" fn sinezhab_request(
     answer: &mut AnswerWords,
 )
     ensures { λ _. ⌜ (now (answer .exit) ≡ requestedOf (now (unit .entry) .settings) (now (unit .entry) .state) (now (unit .entry) .halves) time (length (now (frame .entry))) .answer)
-        × (now (unit .exit) ≡ requestOf (now (unit .entry)) time (length (now (frame .entry))))
+        × (now (unit .exit) ≡ unitAsking (now (unit .entry)) time (length (now (frame .entry))))
         × (now (frame .exit) ≡ frameAfter (coreOf (now (unit .entry) .settings) (now (unit .entry) .state) (now (unit .entry) .halves) (delaysWords freshExchange)) time (now (frame .entry))) ⌝ }
 {
     let s = unit.settings;

@@ -17,12 +17,12 @@ use Rattle.door_words.specs.declared.answers.AnswerWords.{AnswerWords}
 use Rattle.door_words.specs.Answers.{plain, refusing, driftWords}
 use Rattle.door_core.specs.declared.ticking.Ticked.{Ticked}
 
-abbrev pub tickedAs : Head → Answer → Ticked
-tickedAs h (Refused r) = record { answer = refusing (numberOf r); head = h; wipes = false }
-tickedAs h (Says p) = record { answer = plain (codeOf p); head = h; wipes = wipesOf p }
+abbrev pub tickedWith : Head → Answer → Ticked
+tickedWith h (Refused r) = record { answer = refusing (numberOf r); head = h; wipes = false }
+tickedWith h (Says p) = record { answer = plain (codeOf p); head = h; wipes = wipesOf p }
 
 abbrev pub tickedBy : Took → Ticked
-tickedBy x = tickedAs (x .head) (x .answer)
+tickedBy x = tickedWith (x .head) (x .answer)
 
 -- the line, with the wipe count
 abbrev pub linedOf : SettingsWords → StateWords → Head → List ℤ → List ℕ → AnswerWords

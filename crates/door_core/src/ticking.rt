@@ -2,7 +2,7 @@
 ghost use mathlib.Core.Path.{_≡_};
 ghost use Rattle.rules_watch.specs.Watch.{watchWith, takenOf, tookOf};
 ghost use Rattle.door_records.specs.Unit.{watchIn};
-ghost use Rattle.door_core.specs.Ticking.{tickedAs, tickedBy, linedOf};
+ghost use Rattle.door_core.specs.Ticking.{tickedWith, tickedBy, linedOf};
 use door_records::unit::SettingsWords;
 use door_records::unit::StateWords;
 use door_words::answers::AnswerWords;
@@ -17,7 +17,7 @@ pub struct Ticked {
 }
 
 fn tell(head: Head, answer: Answer) -> Ticked
-    ensures { λ r. ⌜ r ≡ tickedAs head answer ⌝ }
+    ensures { λ r. ⌜ r ≡ tickedWith head answer ⌝ }
 {
     match answer {
         Answer::Refused(number) => Ticked {

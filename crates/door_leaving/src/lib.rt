@@ -3,7 +3,7 @@ ghost use mathlib.Core.Path.{_≡_};
 ghost use mathlib.Core.List.{[]};
 ghost use Rattle.rules_watch.specs.Watch.{freshWatch};
 ghost use Rattle.door_core.specs.Wiping.{emptiedOf};
-ghost use Rattle.door_loop.specs.Lending.{unitWith, heldIn, announcedIn, heardIn, sentOf, tickOf};
+ghost use Rattle.door_loop.specs.Lending.{unitWith, lentBy, announcedIn, heardIn, sentOf, tickOf};
 use door_choosing::Held;
 use door_core::ticking;
 use door_core::wiping;
@@ -38,10 +38,10 @@ pub fn hold(
     q: Held,
     answer: &mut AnswerWords,
 )
-    ensures { λ _. ⌜ (now (unit .exit) ≡ heldIn (now (unit .entry)) (now (servo .entry)) [] (now (watch .entry)) q .unit)
-        × (now (servo .exit) ≡ heldIn (now (unit .entry)) (now (servo .entry)) [] (now (watch .entry)) q .servo)
-        × (now (watch .exit) ≡ heldIn (now (unit .entry)) (now (servo .entry)) [] (now (watch .entry)) q .watch)
-        × (now (answer .exit) ≡ heldIn (now (unit .entry)) (now (servo .entry)) [] (now (watch .entry)) q .answer) ⌝ }
+    ensures { λ _. ⌜ (now (unit .exit) ≡ lentBy (now (unit .entry)) (now (servo .entry)) [] (now (watch .entry)) q .unit)
+        × (now (servo .exit) ≡ lentBy (now (unit .entry)) (now (servo .entry)) [] (now (watch .entry)) q .servo)
+        × (now (watch .exit) ≡ lentBy (now (unit .entry)) (now (servo .entry)) [] (now (watch .entry)) q .watch)
+        × (now (answer .exit) ≡ lentBy (now (unit .entry)) (now (servo .entry)) [] (now (watch .entry)) q .answer) ⌝ }
 {
     *answer = q.answer;
     unit.state = q.state;

@@ -38,7 +38,7 @@ use Rattle.unit_ticking.proofs.Pulses.{every-outcome}
 use Rattle.unit.specs.declared.Unit.{Unit}
 use Rattle.unit.specs.declared.Stepped.{Stepped}
 use Rattle.unit.specs.Calls.{applied}
-use Rattle.unit.specs.Handing.{request, sent, tick, line, askedOf, servedOf}
+use Rattle.unit_handing.specs.Handing.{request, sent, tick, line, askedOf, servedOf}
 use Rattle.door_records.specs.declared.unit.UnitWords.{UnitWords}
 use Rattle.door_records.specs.Unit.{coreIn, settingsIn, exchangeIn}
 use Rattle.door_records.proofs.Backs.{exchange-back}

@@ -33,7 +33,7 @@ use Rattle.door_records.proofs.Backs.{chosen-back}
 use Rattle.door_words.specs.Answers.{choosing}
 use Rattle.door_core.specs.Wiping.{wipedState}
 use Rattle.door_choosing.specs.Choosing.{announceIn, numberedBy, seatUnless, chosenState, heldBy, heldOf, heldUnless, timedOf}
-use Rattle.door_loop.specs.Lending.{noMaster, standingAt, chosenIn, heldIn, seatedIn}
+use Rattle.door_loop.specs.Lending.{freshMaster, standingAt, chosenIn, lentBy, seatedIn}
 use Rattle.door_loop.specs.Lending as places
 use Rattle.door_loop.specs.Loop.{Parts, fromLent, Meant}
 use Rattle.door_loop.proofs.Calls.{meantIn, stepped, u, c, set as settled, stays, progress, by}
@@ -51,8 +51,8 @@ module _ {A B : Type 0} (f : A → B) where
   map-set (y ∷ l) (suc k) x = ap (λ (r : List B). f y ∷ r) (map-set l k x)
 
 -- the record at a place of the table
-place-told : (t : List MasterWords) (k : ℕ) → getD (map recordIn t) k freshRecord ≡ recordIn (getD t k noMaster)
-place-told t k = getD-map recordIn t k noMaster
+place-told : (t : List MasterWords) (k : ℕ) → getD (map recordIn t) k freshRecord ≡ recordIn (getD t k freshMaster)
+place-told t k = getD-map recordIn t k freshMaster
 
 module _ (p : Parts) where
   abbrev tell : List MasterWords → Table
@@ -67,14 +67,14 @@ module _ (p : Parts) where
 
   -- this master, or none, is held
   held-same : (t : List MasterWords) (now : ℕ) (m : Chosen)
-      → meantIn (fromLent (heldIn (u p) (p .servo) t (p .watch) (heldOf (u p .state) now m))) ≡ stepped (applied (c p) (tell t) (holds (stays p) (progress p) now m))
+      → meantIn (fromLent (lentBy (u p) (p .servo) t (p .watch) (heldOf (u p .state) now m))) ≡ stepped (applied (c p) (tell t) (holds (stays p) (progress p) now m))
   unfolding heldOf
   held-same t now m = go (sameMasterOf (masterIn (u p .state .chosen)) m)
     where
       go : (b : Bool)
           → meantIn
           (fromLent
-          (heldIn (u p) (p .servo) t (p .watch)
+          (lentBy (u p) (p .servo) t (p .watch)
           (heldBy (u p .state) now m (cond b (Same m) (Changed m)))))
           ≡ stepped (applied (c p) (tell t) (holdsBy (stays p) (progress p) now m (cond b (Same m) (Changed m))))
       go true = rw (chosen-back m)
@@ -82,7 +82,7 @@ module _ (p : Parts) where
 
   -- the choice over the table
   chose-same : (t : List MasterWords) (now : ℕ)
-      → meantIn (fromLent (heldIn (u p) (p .servo) t (p .watch) (heldOf (u p .state) now (chosenIn (u p) t now))))
+      → meantIn (fromLent (lentBy (u p) (p .servo) t (p .watch) (heldOf (u p .state) now (chosenIn (u p) t now))))
       ≡ stepped (applied (c p) (tell t) (chooses (settled p) (stays p) (progress p) (tell t) now))
   unfolding chooses
   chose-same t now = rw (chosen-same t now) (held-same t now (chosenAt (map recordIn t) now exponent))
@@ -115,7 +115,7 @@ module _ (p : Parts) where
         ≡ after (settledOf (record { ruling = v; at = at; known = known }) table announced now)
     seated-same (Barred r) at known = refl
     seated-same Clear at true =
-        let r = renewedOf (recordIn (getD (p .table) at noMaster)) announced now in
+        let r = renewedOf (recordIn (getD (p .table) at freshMaster)) announced now in
         chose-same (set (p .table) at (masterWords r)) now
         ∙ rw (stored-same at r, place-told (p .table) at)
     seated-same Clear at false =
@@ -138,13 +138,13 @@ module _ (p : Parts) where
 
   -- ---- the bare time call
   pub passed-same : (now : ℕ)
-      → meantIn (fromLent (heldIn (u p) (p .servo) (p .table) (p .watch) (timedOf (u p .state) now (chosenIn (u p) (p .table) now))))
+      → meantIn (fromLent (lentBy (u p) (p .servo) (p .table) (p .watch) (timedOf (u p .state) now (chosenIn (u p) (p .table) now))))
       ≡ by p (timePasses (settled p) (stays p) (progress p) (c p .table) now)
   unfolding timePasses
   passed-same now = go (firstOf (ofTime (timeDue (u p .state .now) now)))
     where
       go : (v : Ruling)
-          → meantIn (fromLent (heldIn (u p) (p .servo) (p .table) (p .watch) (heldUnless (u p .state) v (heldOf (u p .state) now (chosenIn (u p) (p .table) now)))))
+          → meantIn (fromLent (lentBy (u p) (p .servo) (p .table) (p .watch) (heldUnless (u p .state) v (heldOf (u p .state) now (chosenIn (u p) (p .table) now)))))
           ≡ by p (unless v (chooses (settled p) (stays p) (progress p) (c p .table) now))
       go Clear = chose-same (p .table) now
       go (Barred n) = refl

@@ -22,10 +22,10 @@ use Rattle.unit_choosing.specs.Choosing.{announces}
 use Rattle.unit_measuring.specs.Hearing.{hears}
 use Rattle.unit_measuring.proofs.Barring.{heard-by}
 use Rattle.unit.specs.declared.Unit.{Unit}
-use Rattle.unit.specs.declared.handing.Asked.{Asked}
-use Rattle.unit.specs.declared.handing.Asked.the-variants.{Barred, Asks}
+use Rattle.unit_handing.specs.declared.Asked.{Asked}
+use Rattle.unit_handing.specs.declared.Asked.the-variants.{Barred, Asks}
 use Rattle.unit.specs.Calls.{unitTable, freshUnit}
-use Rattle.unit.specs.Handing.{Handed, receive, request, sent, time, reset, tick, line, show, messageAsked, readAsked, timeAsked, askedOf, steppedBy, servedOf, servedAll}
+use Rattle.unit_handing.specs.Handing.{Handed, receive, request, sent, time, reset, tick, line, show, messageAsked, readAsked, timeAsked, askedOf, steppedBy, servedOf, servedAll}
 use Rattle.door_records.specs.declared.masters.MasterWords.{MasterWords}
 use Rattle.door_records.specs.Masters.{recordIn}
 use Rattle.door_core.specs.Receiving.{receivedBy, sortedBy}

@@ -38,14 +38,14 @@ use Rattle.door_core.specs.declared.wiping.Emptied.{Emptied}
 use Rattle.door_core.specs.declared.ticking.Ticked.{Ticked}
 use Rattle.door_core.specs.Wiping.{wipedState, resetState, emptiedOf}
 use Rattle.door_core.specs.Receiving.{receivedBy}
-use Rattle.door_core.specs.Ticking.{tickedAs, tickedBy}
+use Rattle.door_core.specs.Ticking.{tickedWith, tickedBy}
 use Rattle.door_choosing.specs.declared.Held.{Held}
 use Rattle.door_choosing.specs.declared.Seated.{Seated}
 use Rattle.door_choosing.specs.declared.Looked.{Looked}
 use Rattle.door_choosing.specs.Choosing.{announceIn, lookedOf, numberedBy, seatBy, seatUnless, bestWith, heldOf, timedOf, untabledOf}
 use Rattle.door_measuring.specs.declared.measuring.Told.{Told}
 use Rattle.door_measuring.specs.Measuring.{heardTold, servoAfter, outputSaid}
-use Rattle.door_loop.specs.Lending.{Lent, says, withState, unitWith, wipedIn, spokenIn, toldIn, heardIn, heldIn, noMaster, standingAt, candidateAt, chosenIn, placedIn, seatedIn, seatIn, announcedIn, openIn, receivedIn, receiveOf, timeOf, resetOf, tickedIn, tickOf}
+use Rattle.door_loop.specs.Lending.{Lent, says, withState, unitWith, wipedIn, spokenIn, toldIn, heardIn, lentBy, freshMaster, standingAt, candidateAt, chosenIn, placedIn, seatedIn, seatIn, announcedIn, openIn, receivedIn, receiveOf, timeOf, resetOf, tickedIn, tickOf}
 
 -- ---- a test that held, or did not
 pub held-is : {X : Type 0} (t : Bool) (a b : X) → Holds t → a ≡ cond t a b
@@ -64,11 +64,11 @@ five-is false a b z = absurd z
 pub fresh-is : (x : Watch) → (x .head ≡ freshWatch .head) × (x .references ≡ freshWatch .references) × (x .ys ≡ freshWatch .ys) × (x .marks ≡ freshWatch .marks) → x ≡ freshWatch
 fresh-is x e i = record { head = e .0 i; references = e .1 i; ys = e .2 i; marks = e .3 i }
 
-head-as : (h : Head) (a : Answer) → tickedAs h a .head ≡ h
+head-as : (h : Head) (a : Answer) → tickedWith h a .head ≡ h
 head-as h (Refused r) = refl
 head-as h (Says p) = refl
 
-pub taken-is : (x y : Watch) (a : Answer) (q : Ticked) → q ≡ tickedAs (y .head) a → x .head ≡ q .head → x .references ≡ y .references → x .ys ≡ y .ys → x .marks ≡ y .marks → x ≡ y
+pub taken-is : (x y : Watch) (a : Answer) (q : Ticked) → q ≡ tickedWith (y .head) a → x .head ≡ q .head → x .references ≡ y .references → x .ys ≡ y .ys → x .marks ≡ y .marks → x ≡ y
 taken-is x y a q e h r s m i =
     record { head = (h ∙ ap (λ (k : Ticked). k .head) e ∙ head-as (y .head) a) i; references = r i; ys = s i; marks = m i }
 
@@ -115,8 +115,8 @@ heard-left w v t y m now t2 = told-left w v t y (heardTold (w .settings) (w .sta
 -- ---- the choice
 module _ (w : UnitWords) (v : Servo) (t : List MasterWords) (y : Watch) (q : Held) where
   pub held-left : {u : UnitWords} {n : Servo} {x : Watch} {a : AnswerWords}
-      → (u ≡ heldIn w v [] y q .unit) × (n ≡ heldIn w v [] y q .servo) × (x ≡ heldIn w v [] y q .watch) × (a ≡ heldIn w v [] y q .answer)
-      → record { unit = u; servo = n; table = t; watch = x; answer = a } ≡ heldIn w v t y q
+      → (u ≡ lentBy w v [] y q .unit) × (n ≡ lentBy w v [] y q .servo) × (x ≡ lentBy w v [] y q .watch) × (a ≡ lentBy w v [] y q .answer)
+      → record { unit = u; servo = n; table = t; watch = x; answer = a } ≡ lentBy w v t y q
   held-left e = (λ i. record { unit = e .0 i; servo = e .1 i; table = t; watch = e .2 i; answer = e .3 i }) ∙ by (q .wipes)
     where
       at : Bool → List MasterWords → Lent
@@ -128,14 +128,14 @@ module _ (w : UnitWords) (v : Servo) (t : List MasterWords) (y : Watch) (q : Hel
 
 -- the choice over the five
 pub best-is : (w : UnitWords) (t : List MasterWords) (now n : ℕ) (c0 c1 c2 c3 c4 : Candidate) → n ≡ intervalOf (w .settings .announce)
-    → c0 ≡ candidateOf now n (recordIn (getD t 0 noMaster)) → c1 ≡ candidateOf now n (recordIn (getD t 1 noMaster)) → c2 ≡ candidateOf now n (recordIn (getD t 2 noMaster)) → c3 ≡ candidateOf now n (recordIn (getD t 3 noMaster)) → c4 ≡ candidateOf now n (recordIn (getD t 4 noMaster))
+    → c0 ≡ candidateOf now n (recordIn (getD t 0 freshMaster)) → c1 ≡ candidateOf now n (recordIn (getD t 1 freshMaster)) → c2 ≡ candidateOf now n (recordIn (getD t 2 freshMaster)) → c3 ≡ candidateOf now n (recordIn (getD t 3 freshMaster)) → c4 ≡ candidateOf now n (recordIn (getD t 4 freshMaster))
     → bestOf c0 c1 c2 c3 c4 ≡ chosenIn w t now
 best-is w t now n c0 c1 c2 c3 c4 e e0 e1 e2 e3 e4 = rw (e0, e1, e2, e3, e4, e)
 
 -- the place of an Announce
 module _ (w : UnitWords) (t : List MasterWords) (m : Message) (now n : ℕ) (a0 a1 a2 a3 a4 : Looked) (e : n ≡ intervalOf (w .settings .announce))
-    (e0 : a0 ≡ lookedOf m now n (recordIn (getD t 0 noMaster))) (e1 : a1 ≡ lookedOf m now n (recordIn (getD t 1 noMaster))) (e2 : a2 ≡ lookedOf m now n (recordIn (getD t 2 noMaster)))
-    (e3 : a3 ≡ lookedOf m now n (recordIn (getD t 3 noMaster))) (e4 : a4 ≡ lookedOf m now n (recordIn (getD t 4 noMaster))) where
+    (e0 : a0 ≡ lookedOf m now n (recordIn (getD t 0 freshMaster))) (e1 : a1 ≡ lookedOf m now n (recordIn (getD t 1 freshMaster))) (e2 : a2 ≡ lookedOf m now n (recordIn (getD t 2 freshMaster)))
+    (e3 : a3 ≡ lookedOf m now n (recordIn (getD t 3 freshMaster))) (e4 : a4 ≡ lookedOf m now n (recordIn (getD t 4 freshMaster))) where
   pub seat-is : (p : Seated) → p ≡ seatBy (w .settings) (w .state) m now (a0 .standing) (a1 .standing) (a2 .standing) (a3 .standing) (a4 .standing) → p ≡ seatIn w t m now
   seat-is p k = k ∙ rw (e0, e1, e2, e3, e4, e)
 
@@ -175,8 +175,8 @@ module _ (w : UnitWords) (v : Servo) (t : List MasterWords) (y : Watch) (m : Mes
   pub seat-refused : (a : AnswerWords) → a ≡ refusing (p .number) → Holds (p .barred) → says w v t y a ≡ seatedIn w v t y m now p
   seat-refused a e z = ap (λ (b : AnswerWords). says w v t y b) e ∙ held-is (p .barred) _ _ z
 
-  pub seat-taken : Holds (not (p .barred)) → (l : List MasterWords) → l ≡ placedIn t m now p → heldIn w v l y (heldOf (w .state) now (chosenIn w l now)) ≡ seatedIn w v t y m now p
-  seat-taken z l e = ap (λ (k : List MasterWords). heldIn w v k y (heldOf (w .state) now (chosenIn w k now))) e ∙ left-is (p .barred) _ _ z
+  pub seat-taken : Holds (not (p .barred)) → (l : List MasterWords) → l ≡ placedIn t m now p → lentBy w v l y (heldOf (w .state) now (chosenIn w l now)) ≡ seatedIn w v t y m now p
+  seat-taken z l e = ap (λ (k : List MasterWords). lentBy w v k y (heldOf (w .state) now (chosenIn w k now))) e ∙ left-is (p .barred) _ _ z
 
 -- ---- an Announce
 module _ (w : UnitWords) (v : Servo) (t : List MasterWords) (y : Watch) (m : Message) (now : ℕ) where
@@ -218,7 +218,7 @@ module _ (w : UnitWords) (v : Servo) (t : List MasterWords) (y : Watch) (now : �
   pub time-untabled : (a : AnswerWords) → a ≡ untabledOf → Holds (not (eqb (length t) 5)) → says w v t y a ≡ timeOf w v t y now
   time-untabled a e z = ap (λ (b : AnswerWords). says w v t y b) e ∙ left-is (eqb (length t) 5) _ _ z
 
-  pub time-is : Holds (not (not (eqb (length t) 5))) → heldIn w v t y (timedOf (w .state) now (chosenIn w t now)) ≡ timeOf w v t y now
+  pub time-is : Holds (not (not (eqb (length t) 5))) → lentBy w v t y (timedOf (w .state) now (chosenIn w t now)) ≡ timeOf w v t y now
   time-is good = five-is (eqb (length t) 5) _ _ good
 
 -- ---- a second pulse

@@ -81,30 +81,30 @@ abbrev pub heardIn : UnitWords → Servo → List MasterWords → Watch → Mess
 heardIn u v t w m now t2 = toldIn u v t w (heardTold (u .settings) (u .state) (u .halves) (u .delays) m now t2)
 
 -- ---- the choice
-abbrev pub heldIn : UnitWords → Servo → List MasterWords → Watch → Held → Lent
-heldIn u v t w q = cond (q .wipes) (wipedIn u (q .state) t (q .answer) (emptiedOf (u .settings))) (says (withState u (q .state)) v t w (q .answer))
+abbrev pub lentBy : UnitWords → Servo → List MasterWords → Watch → Held → Lent
+lentBy u v t w q = cond (q .wipes) (wipedIn u (q .state) t (q .answer) (emptiedOf (u .settings))) (says (withState u (q .state)) v t w (q .answer))
 
 -- what is asked of the record at a place
-abbrev pub noMaster : MasterWords
-noMaster = masterWords freshRecord
+abbrev pub freshMaster : MasterWords
+freshMaster = masterWords freshRecord
 
 abbrev pub standingAt : UnitWords → List MasterWords → Message → ℕ → ℕ → Standing
-standingAt u t m now k = standingOf (m .header .source) (m .header .sequence) now (intervalOf (u .settings .announce)) (recordIn (getD t k noMaster))
+standingAt u t m now k = standingOf (m .header .source) (m .header .sequence) now (intervalOf (u .settings .announce)) (recordIn (getD t k freshMaster))
 
 abbrev pub candidateAt : UnitWords → List MasterWords → ℕ → ℕ → Candidate
-candidateAt u t now k = candidateOf now (intervalOf (u .settings .announce)) (recordIn (getD t k noMaster))
+candidateAt u t now k = candidateOf now (intervalOf (u .settings .announce)) (recordIn (getD t k freshMaster))
 
 abbrev pub chosenIn : UnitWords → List MasterWords → ℕ → Chosen
 chosenIn u t now = bestOf (candidateAt u t now 0) (candidateAt u t now 1) (candidateAt u t now 2) (candidateAt u t now 3) (candidateAt u t now 4)
 
 -- the Announce is refused, or one place of the table is stored and the choice is made over the five
 abbrev pub placedIn : List MasterWords → Message → ℕ → Seated → List MasterWords
-placedIn t m now p = set t (p .at) (placedOf (getD t (p .at) noMaster) m (p .known) now)
+placedIn t m now p = set t (p .at) (placedOf (getD t (p .at) freshMaster) m (p .known) now)
 
 abbrev pub seatedIn : UnitWords → Servo → List MasterWords → Watch → Message → ℕ → Seated → Lent
 seatedIn u v t w m now p =
     cond (p .barred) (says u v t w (refusing (p .number)))
-    (heldIn u v (placedIn t m now p) w (heldOf (u .state) now (chosenIn u (placedIn t m now p) now)))
+    (lentBy u v (placedIn t m now p) w (heldOf (u .state) now (chosenIn u (placedIn t m now p) now)))
 
 abbrev pub seatIn : UnitWords → List MasterWords → Message → ℕ → Seated
 seatIn u t m now =
@@ -128,7 +128,7 @@ abbrev pub receiveOf : UnitWords → Servo → List MasterWords → Watch → Li
 receiveOf u v t w octets now t2 = receivedIn u v t w (receivedBy (readOf octets)) now t2
 
 abbrev pub timeOf : UnitWords → Servo → List MasterWords → Watch → ℕ → Lent
-timeOf u v t w now = cond (eqb (length t) 5) (heldIn u v t w (timedOf (u .state) now (chosenIn u t now))) (says u v t w untabledOf)
+timeOf u v t w now = cond (eqb (length t) 5) (lentBy u v t w (timedOf (u .state) now (chosenIn u t now))) (says u v t w untabledOf)
 
 -- ---- the calls without a table: none is lent
 abbrev pub sentOf : UnitWords → Servo → Watch → ℕ → ℕ → Stamp → Lent
@@ -145,6 +145,6 @@ tickOf u v w reference clock =
     tickedIn u v (takenOf (watchIn (u .settings)) w reference clock) (tickedBy (tookOf (takenOf (watchIn (u .settings)) w reference clock)))
 
 -- the unit after a request
-abbrev pub requestOf : UnitWords → ℕ → ℕ → UnitWords
-requestOf u now room =
+abbrev pub unitAsking : UnitWords → ℕ → ℕ → UnitWords
+unitAsking u now room =
     unitWith u (requestedOf (u .settings) (u .state) (u .halves) now room .state) (requestedOf (u .settings) (u .state) (u .halves) now room .halves) (u .delays)

@@ -13,7 +13,7 @@ use Rattle.rules_settings.specs.declared.Settings.{Settings}
 use Rattle.unit_core.specs.Wipe.{restoredServo, freshCore}
 use Rattle.unit_measuring.specs.Frame.{frameAfter}
 use Rattle.unit.specs.declared.Unit.{Unit}
-use Rattle.unit.specs.Handing.{Handed, receive, request, sent, time, reset, tick, line, show, isStray, servedOf, frameLeft}
+use Rattle.unit_handing.specs.Handing.{Handed, receive, request, sent, time, reset, tick, line, show, isStray, servedOf, frameLeft}
 use Rattle.door_records.specs.declared.unit.UnitWords.{UnitWords}
 use Rattle.door_records.specs.declared.masters.MasterWords.{MasterWords}
 use Rattle.door_records.specs.Unit.{coreIn, coreOf, delaysWords, unitWords}
@@ -23,7 +23,7 @@ use Rattle.door_words.specs.Answers.{answerWords}
 use Rattle.door_core.specs.Showing.{shownOf}
 use Rattle.door_core.specs.Ticking.{linedOf}
 use Rattle.door_measuring.specs.Asking.{requestedOf}
-use Rattle.door_loop.specs.Lending.{Lent, noMaster, receiveOf, timeOf, requestOf, sentOf, resetOf, tickOf}
+use Rattle.door_loop.specs.Lending.{Lent, freshMaster, receiveOf, timeOf, unitAsking, sentOf, resetOf, tickOf}
 
 pub record Parts : Type 0 where
   pub unit : UnitWords
@@ -86,7 +86,7 @@ unfoldable pub lends : Parts → Handed Table → Found
 lends p (receive t octets now arrival) = receives p t octets now arrival
 lends p (request frame now) =
     record {
-      parts = record { unit = requestOf (p .unit) now (length frame); servo = p .servo; table = p .table; watch = p .watch };
+      parts = record { unit = unitAsking (p .unit) now (length frame); servo = p .servo; table = p .table; watch = p .watch };
       answer = requestedOf (p .unit .settings) (p .unit .state) (p .unit .halves) now (length frame) .answer;
       frame = frameAfter (coreOf (p .unit .settings) (p .unit .state) (p .unit .halves) (delaysWords freshExchange)) now frame;
       stray = [];
@@ -118,6 +118,6 @@ freshParts s =
     record {
       unit = unitWords (freshCore s);
       servo = restoredServo s;
-      table = noMaster ∷ noMaster ∷ noMaster ∷ noMaster ∷ noMaster ∷ [];
+      table = freshMaster ∷ freshMaster ∷ freshMaster ∷ freshMaster ∷ freshMaster ∷ [];
       watch = freshWatch;
     }

@@ -13,23 +13,23 @@ use Rattle.door_words.specs.Messages.{noPort, gotWords}
 
 module _ (s : List ℕ) where
   -- the words of octets taken for a message of the kind k
-  abbrev pub ofKind : ℕ → MessageWords
-  ofKind k = gotWords (record { header = headerOf s; body = bodyOf k s }) (record { from = fixedLengthOf k; to = lengthIn s })
+  abbrev pub wordsBy : ℕ → MessageWords
+  wordsBy k = gotWords (record { header = headerOf s; body = bodyOf k s }) (record { from = fixedLengthOf k; to = lengthIn s })
 
   -- the same by what they are
   abbrev pub having : ℕ → Port → Offer → ℕ → MessageWords
   having k p o from =
       record { refused = 0; kind = k; header = headerOf s; stamp = stampAt 34 s; requester = p; offer = o; from = from; to = lengthIn s }
 
-  pub of-delay-resp : {k : ℕ} → k ≡ 9 → ofKind k ≡ having k (portAt 44 s) noOffer 54
+  pub of-delay-resp : {k : ℕ} → k ≡ 9 → wordsBy k ≡ having k (portAt 44 s) noOffer 54
   unfolding bodyOf fixedLengthOf
   of-delay-resp e = rw e
 
-  pub of-announce : {k : ℕ} → k ≡ 11 → ofKind k ≡ having k noPort (offerOf s) 64
+  pub of-announce : {k : ℕ} → k ≡ 11 → wordsBy k ≡ having k noPort (offerOf s) 64
   unfolding bodyOf fixedLengthOf
   of-announce e = rw e
 
-  pub of-other : {k : ℕ} → Known k → (k ≡ 9 → ⊥) → (k ≡ 11 → ⊥) → ofKind k ≡ having k noPort noOffer 44
+  pub of-other : {k : ℕ} → Known k → (k ≡ 9 → ⊥) → (k ≡ 11 → ⊥) → wordsBy k ≡ having k noPort noOffer 44
   unfolding bodyOf fixedLengthOf
   of-other k-sync a b = refl
   of-other k-delay-req a b = refl

@@ -11,7 +11,8 @@ use lib.ListN.{length, take, getD, length-take}
 use lib.Seq.{take-take, take-all}
 use Rattle.rules_delays.specs.Median.{lowerMiddle}
 use Rattle.rules_delays.specs.declared.Delays.{Delays}
-use Rattle.rules_delays.specs.Delays.{acceptedBefore, distanceOf, pathBy, usedBy, usedOf, filtered}
+use Rattle.numbers.specs.Integers.{distanceOf}
+use Rattle.rules_delays.specs.Delays.{acceptedBefore, pathBy, usedBy, usedOf, filtered}
 
 -- the first four, one by one
 pub four : (l : List ℕ) → length l ≡ 5 → getD l 0 0 ∷ getD l 1 0 ∷ getD l 2 0 ∷ getD l 3 0 ∷ [] ≡ take 4 l

@@ -1,9 +1,10 @@
 -- The delays and the filter (rules 7.17, 7.21 and 7.22).
 use mathlib.Core.Bool.{Bool, false, cond}
 use mathlib.Core.List.{List, [], _∷_}
-use Prim.Native.Nat.{ℕ, _+_, _-_, min}
+use Prim.Native.Nat.{ℕ, _+_, min}
 use lib.Dec.{leb, ltb}
 use lib.ListN.{take}
+use Rattle.numbers.specs.Integers.{distanceOf}
 use Rattle.rules_delays.specs.declared.Delays.{Delays}
 use Rattle.rules_delays.specs.Median.{lowerMiddle}
 
@@ -13,9 +14,6 @@ freshDelays = record { five = 0 ∷ 0 ∷ 0 ∷ 0 ∷ 0 ∷ []; count = 0; used 
 -- the accepted delays that are held, newest first
 abbrev pub acceptedBefore : Delays → List ℕ
 acceptedBefore d = take (d .count) (d .five)
-
-abbrev pub distanceOf : ℕ → ℕ → ℕ
-distanceOf a b = (a - b) + (b - a)
 
 -- PATH, of the accepted delays and this one: with none accepted since the wipe it does not apply (rule 7.17)
 unfoldable pub pathBy : List ℕ → ℕ → Bool

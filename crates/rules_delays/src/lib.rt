@@ -3,7 +3,8 @@ ghost use mathlib.Core.Path.{_≡_};
 ghost use Prim.Native.Nat.{_+_, _≤_, min};
 ghost use lib.ListN.{take};
 ghost use Rattle.rules_delays.specs.Median.{countBelow, lowerMiddle, middling};
-ghost use Rattle.rules_delays.specs.Delays.{freshDelays, distanceOf, pathOf, filtered};
+ghost use Rattle.numbers.specs.Integers.{distanceOf};
+ghost use Rattle.rules_delays.specs.Delays.{freshDelays, pathOf, filtered};
 
 // Delays in ns. One that is accepted is at most 9,999,999.
 #[repr(C)]

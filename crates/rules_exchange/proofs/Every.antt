@@ -17,7 +17,7 @@ use Rattle.rules_measure.specs.declared.Sum.the-variants.{Delay, Neg as SumNeg,
 use Rattle.rules_delays.specs.Delays.{pathOf, usedOf}
 use Rattle.rules_exchange.specs.Halves.{SyncHalf, noSync, awaits, knows, RequestHalf, noRequest, asked, stamped, syncHalf, requestHalf, heard}
 use Rattle.rules_measure.specs.Measure.{ns, sumOf, hugeOf, isStep}
-use Rattle.rules_exchange.specs.Table.{Event, sync, followUp, requested, sent, delayResp, Row, syncIs, requestIs, measures, rowBy, if-matching, samePort}
+use Rattle.rules_exchange.specs.Table.{Event, sync, followUp, requested, sent, delayResp, Row, putsSync, putsRequest, measures, rowBy, if-matching, samePort}
 use Rattle.rules_exchange.specs.Events.{saidWith, refused, withSync, withRequest, withLast, withRows, withDelay, Local, noLocal, stamp, local, correctionIn, isAbove, stampTaken, spent, hugeAgain, pathAgain, measuredWith, offsetOf, accepted, judged, bySum, finished, follows, tellsOf, told}
 use Rattle.rules_measure.proofs.Far.{Least, sum-range}
 use Rattle.rules_exchange.proofs.Told.{told-is}
@@ -101,12 +101,12 @@ module _ (x : Exchange) (Q : Answered → Type 0) (h : Every x Q) where
   unfolding rowBy stampTaken
   by-row (sync two n c t1 t2) s r = by-stamp t2 Held (withSync x (heard two n c t1 t2)) (h .holds (heard two n c t1 t2) t2)
   by-row (followUp n f t1) noSync r = h .refuses Unmatched
-  by-row (followUp n f t1) (awaits m t2 c) r = matching noLocal (eqb m n) (syncIs Paired (knows m t1 t2 c f)) (h .pairs (knows m t1 t2 c f))
+  by-row (followUp n f t1) (awaits m t2 c) r = matching noLocal (eqb m n) (putsSync Paired (knows m t1 t2 c f)) (h .pairs (knows m t1 t2 c f))
   by-row (followUp n f t1) (knows m u t2 c g) r = h .refuses Unmatched
   by-row (requested n) s r = h .asks n
   by-row (sent n t3) s noRequest = h .refuses Unmatched
   by-row (sent n t3) s (asked m) =
-      matching (stamp t3) (eqb m n) (requestIs Stamped (stamped m t3)) (by-stamp t3 Stamped (withRequest x (stamped m t3)) (h .stamps (stamped m t3) t3))
+      matching (stamp t3) (eqb m n) (putsRequest Stamped (stamped m t3)) (by-stamp t3 Stamped (withRequest x (stamped m t3)) (h .stamps (stamped m t3) t3))
   by-row (sent n t3) s (stamped m u) = h .refuses Unmatched
   by-row (delayResp n b t4 p own) noSync r = h .refuses Unmatched
   by-row (delayResp n b t4 p own) (awaits k t2 c) r = h .refuses Unmatched

@@ -17,7 +17,7 @@ use Rattle.rules_exchange.specs.declared.said.Said.the-variants.{Held, P
 use Rattle.rules_exchange.specs.Halves.{SyncHalf, noSync, awaits, knows, RequestHalf, noRequest, asked, stamped, syncHalf, requestHalf, heard}
 use Rattle.rules_exchange.specs.Inner.{syncWaitsFor, waits, syncComplete, requestWaitsFor, pends, requestComplete, partners, partnersOf}
 use Rattle.rules_measure.specs.Measure.{forwardOf, backOf}
-use Rattle.rules_exchange.specs.Table.{Event, sync, followUp, requested, sent, delayResp, Row, unmatched, syncIs, requestIs, measures, rowBy, samePort}
+use Rattle.rules_exchange.specs.Table.{Event, sync, followUp, requested, sent, delayResp, Row, unmatched, putsSync, putsRequest, measures, rowBy, samePort}
 use Rattle.rules_exchange.specs.Events.{told, tellsOf, stamp, local, correctionOf, correctionIn, rowOf, unmatchedOf, isUnmatched, groundsOf, unlessBarred, saidWith, refused, withSync, withRequest, stampTaken, finished, follows}
 use Rattle.rules_delays.proofs.Tests.{never}
 
@@ -33,8 +33,8 @@ module _ (x : Exchange) (e : Event) where
           ≡ cond b (refused Correction x) (follows x (local e) r)
       go true r = refl
       go false unmatched = refl
-      go false (syncIs s h) = refl
-      go false (requestIs s h) = refl
+      go false (putsSync s h) = refl
+      go false (putsRequest s h) = refl
       go false (measures forward back) = refl
 
   pub told-correction : correctionIn e ≡ true → told x e ≡ refused Correction x
@@ -97,7 +97,7 @@ given-is r n h = go (r .pending) refl (r .given) refl
 
 -- ---- the rows that need a partner
 module _ (s : Sync) (r : RequestHalf) (n : ℕ) (c : ℤ) (t : Stamp) where
-  pub follow-row : syncWaitsFor s n ≡ true → rowBy (followUp n c t) (syncHalf s) r ≡ syncIs Paired (knows (s .sequence) t (s .t2) (s .correction) c)
+  pub follow-row : syncWaitsFor s n ≡ true → rowBy (followUp n c t) (syncHalf s) r ≡ putsSync Paired (knows (s .sequence) t (s .t2) (s .correction) c)
   unfolding rowBy
   follow-row h = let w = waits-is s n h in rw (w .half, w .same)
 
@@ -107,7 +107,7 @@ follow-none noSync r n c t h = refl
 follow-none (awaits m t2 d) r n c t h = rw h
 follow-none (knows m t1 t2 d f) r n c t h = refl
 
-pub sent-row : (s : SyncHalf) (r : Request) (n : ℕ) (t : Stamp) → requestWaitsFor r n ≡ true → rowBy (sent n t) s (requestHalf r) ≡ requestIs Stamped (stamped (r .sequence) t)
+pub sent-row : (s : SyncHalf) (r : Request) (n : ℕ) (t : Stamp) → requestWaitsFor r n ≡ true → rowBy (sent n t) s (requestHalf r) ≡ putsRequest Stamped (stamped (r .sequence) t)
 unfolding rowBy
 sent-row s r n t h = let w = pends-is r n h in rw (w .half, w .same)
 
@@ -152,11 +152,11 @@ module _ (n : ℕ) (c : ℤ) (t : Stamp) (p own : Port) where
 pub told-sync : (x : Exchange) (two : Bool) (n : ℕ) (c : ℤ) (t1 t2 : Stamp) → correctionOf c ≡ false
     → told x (sync two n c t1 t2) ≡ stampTaken (stamp t2) Held x (withSync x (heard two n c t1 t2))
 unfolding rowBy
-told-sync x two n c t1 t2 h = told-row x (sync two n c t1 t2) (syncIs Held (heard two n c t1 t2)) h refl
+told-sync x two n c t1 t2 h = told-row x (sync two n c t1 t2) (putsSync Held (heard two n c t1 t2)) h refl
 
 pub told-requested : (x : Exchange) (n : ℕ) → told x (requested n) ≡ saidWith (Asked n) (withRequest x (asked n))
 unfolding rowBy stampTaken
-told-requested x n = told-row x (requested n) (requestIs (Asked n) (asked n)) refl refl
+told-requested x n = told-row x (requested n) (putsRequest (Asked n) (asked n)) refl refl
 
 -- ---- the half that goes on, as the code writes it
 module _ (x : Exchange) (n : ℕ) where

@@ -23,7 +23,7 @@ use Rattle.rules_measure.specs.declared.Sum.the-variants.{Delay, Neg as SumNeg,
 use Rattle.rules_delays.specs.Delays.{freshDelays, pathOf, usedOf, filtered}
 use Rattle.rules_exchange.specs.Halves.{SyncHalf, RequestHalf, freshSync, freshRequest, asSync, asRequest, syncHalf, requestHalf}
 use Rattle.rules_measure.specs.Measure.{ns, sumOf, hugeOf, isStep}
-use Rattle.rules_exchange.specs.Table.{Event, sync, followUp, requested, sent, delayResp, Row, unmatched, syncIs, requestIs, measures, rowBy}
+use Rattle.rules_exchange.specs.Table.{Event, sync, followUp, requested, sent, delayResp, Row, unmatched, putsSync, putsRequest, measures, rowBy}
 
 -- as after a wipe: no halves, no last stamp, no delays, no rows
 abbrev pub freshExchange : Exchange
@@ -133,8 +133,8 @@ rowOf x e = rowBy e (syncHalf (x .sync)) (requestHalf (x .request))
 -- UNMATCHED: the row says that no partner is there (rule 3.17)
 abbrev pub isUnmatched : Row → Bool
 isUnmatched unmatched = true
-isUnmatched (syncIs s h) = false
-isUnmatched (requestIs s h) = false
+isUnmatched (putsSync s h) = false
+isUnmatched (putsRequest s h) = false
 isUnmatched (measures forward back) = false
 
 abbrev pub unmatchedOf : Exchange → Event → Bool
@@ -154,8 +154,8 @@ groundsOf x e = ofExchange (exchangeDue x e noneDue)
 -- ---- the whole: the first refusal that is due, or what the row says
 abbrev pub follows : Exchange → Local → Row → Answered
 follows x l unmatched = refused Unmatched x
-follows x l (syncIs s h) = stampTaken l s x (withSync x h)
-follows x l (requestIs s h) = stampTaken l s x (withRequest x h)
+follows x l (putsSync s h) = stampTaken l s x (withSync x h)
+follows x l (putsRequest s h) = stampTaken l s x (withRequest x h)
 follows x l (measures forward back) = finished x forward (forward +ℤ back)
 
 -- what an event does where nothing refuses it

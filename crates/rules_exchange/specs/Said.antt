@@ -54,8 +54,8 @@ abbrev pub finding : Accepted → Class → Class
 finding m c = record { code = c .code; wipes = c .wipes; faults = c .faults; asked = c .asked; verdict = c .verdict; found = m }
 
 -- an accepted measurement, as the rules count: the delays are no less than 0
-abbrev pub acceptedOf : Accepted → Verdict
-acceptedOf m = accepted (natAbs (m .delay .0)) (natAbs (m .used .0)) (m .offset .0)
+abbrev pub asVerdict : Accepted → Verdict
+asVerdict m = accepted (natAbs (m .delay .0)) (natAbs (m .used .0)) (m .offset .0)
 
 abbrev pub classOf : Said → Class
 classOf Held = says 3
@@ -63,7 +63,7 @@ classOf Paired = says 4
 classOf (Asked n) = asking n (says 5)
 classOf Stamped = says 6
 classOf Back = wiping (says 7)
-classOf (Measured m) = ending (acceptedOf m) (finding m (says 8))
+classOf (Measured m) = ending (asVerdict m) (finding m (says 8))
 classOf Neg = ending rejected (says 9)
 classOf Long = ending rejected (says 10)
 classOf Huge = ending huge (says 11)

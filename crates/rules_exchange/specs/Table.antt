@@ -21,8 +21,8 @@ pub data Event : Type 0 where
 -- what follows: no partner is there, and nothing changes; one half has another state; a measurement, which spends both
 pub data Row : Type 0 where
   unmatched : Row
-  syncIs : Said → SyncHalf → Row
-  requestIs : Said → RequestHalf → Row
+  putsSync : Said → SyncHalf → Row
+  putsRequest : Said → RequestHalf → Row
   measures : (forward back : ℤ) → Row
 
 -- a row that needs its partner
@@ -35,16 +35,16 @@ samePort p q = cond (eqb (p .clock) (q .clock)) (eqb (p .number) (q .number)) fa
 
 unfoldable pub rowBy : Event → SyncHalf → RequestHalf → Row
 -- rules 7.2 and 7.3: whatever was held
-rowBy (sync two n c t1 t2) s r = syncIs Held (heard two n c t1 t2)
+rowBy (sync two n c t1 t2) s r = putsSync Held (heard two n c t1 t2)
 -- rule 7.4: t1 for the Sync that awaits it
 rowBy (followUp n f t1) noSync r = unmatched
-rowBy (followUp n f t1) (awaits m t2 c) r = if-matching (eqb m n) (syncIs Paired (knows m t1 t2 c f))
+rowBy (followUp n f t1) (awaits m t2 c) r = if-matching (eqb m n) (putsSync Paired (knows m t1 t2 c f))
 rowBy (followUp n f t1) (knows m u t2 c g) r = unmatched
 -- rule 7.5: whatever was pending
-rowBy (requested n) s r = requestIs (Asked n) (asked n)
+rowBy (requested n) s r = putsRequest (Asked n) (asked n)
 -- rule 7.6: t3 for the request that awaits it
 rowBy (sent n t3) s noRequest = unmatched
-rowBy (sent n t3) s (asked m) = if-matching (eqb m n) (requestIs Stamped (stamped m t3))
+rowBy (sent n t3) s (asked m) = if-matching (eqb m n) (putsRequest Stamped (stamped m t3))
 rowBy (sent n t3) s (stamped m u) = unmatched
 -- rule 7.7: both halves are whole, and the answer is for this request of this port
 rowBy (delayResp n b t4 p own) noSync r = unmatched

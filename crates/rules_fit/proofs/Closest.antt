@@ -17,7 +17,8 @@ use lib.Ieee.Fits.{and-l, and-r, round-is}
 use lib.Ieee.Nearest.{closest}
 use lib.Ieee.Order.{drop, kept}
 use lib.Ieee.Scale.{grid, overflow}
-use Rattle.rules_fit.specs.Nearest.{distanceOf, signedDistance, Best}
+use Rattle.numbers.specs.Integers.{distanceOf}
+use Rattle.rules_fit.specs.Nearest.{signedDistance, Best}
 
 -- ---- the nearest whole number
 abbrev Cmp : Ordering → ℕ → ℕ → Type 0

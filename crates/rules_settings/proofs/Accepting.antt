@@ -11,7 +11,7 @@ use Rattle.rules_watch.specs.Settings.{sizeOf, leastOf, waitOf}
 use Rattle.rules_settings.specs.declared.Settings.{Settings}
 use Rattle.rules_settings.specs.declared.Given.{Given}
 use Rattle.rules_settings.specs.declared.Set.the-variants.{Accepted, Refused}
-use Rattle.rules_settings.specs.Ranges.{steersOf, watchesOf, asGiven, setUnlessBarred, settingsOf}
+use Rattle.rules_settings.specs.Ranges.{steeringFits, watchFits, asGiven, setUnlessBarred, settingsOf}
 use Rattle.rules_settings.proofs.Narrowing.{Ranges, split, in-ranges}
 
 -- the answer by its test, without the list of refusals
@@ -20,17 +20,17 @@ unfolding firstOf
 making-order true s = refl
 making-order false s = refl
 
-pub settings-is : (g : Given) → settingsOf g ≡ cond (steersOf g && watchesOf g) (Accepted (asGiven g)) (Refused Outside)
-settings-is g = making-order (steersOf g && watchesOf g) (asGiven g)
+pub settings-is : (g : Given) → settingsOf g ≡ cond (steeringFits g && watchFits g) (Accepted (asGiven g)) (Refused Outside)
+settings-is g = making-order (steeringFits g && watchFits g) (asGiven g)
 
 module _ (g : Given) (s : Settings) (e : settingsOf g ≡ Accepted s) where
   pub accepted-ranges : Ranges s
-  accepted-ranges = go (steersOf g && watchesOf g) refl (sym (settings-is g) ∙ e)
+  accepted-ranges = go (steeringFits g && watchFits g) refl (sym (settings-is g) ∙ e)
     where
-      go : (b : Bool) → (steersOf g && watchesOf g) ≡ b → cond b (Accepted (asGiven g)) (Refused Outside) ≡ Accepted s → Ranges s
+      go : (b : Bool) → (steeringFits g && watchFits g) ≡ b → cond b (Accepted (asGiven g)) (Refused Outside) ≡ Accepted s → Ranges s
       go true p f =
           let q : asGiven g ≡ s = cc in
-          let h = split (steersOf g) (watchesOf g) p in
+          let h = split (steeringFits g) (watchFits g) p in
           subst Ranges q (in-ranges g (h .0) (h .1))
       go false p f = let z : _≡_ {A = ℕ} 0 1 = cc in absurd (omega arith)
 

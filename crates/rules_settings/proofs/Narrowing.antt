@@ -10,7 +10,7 @@ use Rattle.numbers.specs.Integers.{up}
 use Rattle.numbers.proofs.Integers.{one-side, leZ-true, ltZ-true, ltZ-false}
 use Rattle.rules_settings.specs.declared.Settings.{Settings}
 use Rattle.rules_settings.specs.declared.Given.{Given}
-use Rattle.rules_settings.specs.Ranges.{isBetween, steersOf, watchesOf, asGiven}
+use Rattle.rules_settings.specs.Ranges.{isBetween, steeringFits, watchFits, asGiven}
 use Rattle.rules_settings.specs.Inner.{narrowedOf}
 
 -- each end of each range
@@ -96,8 +96,8 @@ module _ (g : Given) where
   abbrev jump : Bool
   jump = leZ (g .jump) (pos 999_999_999)
 
-  pub in-ranges : steersOf g ≡ true → watchesOf g ≡ true → Ranges (asGiven g)
-  unfolding steersOf watchesOf
+  pub in-ranges : steeringFits g ≡ true → watchFits g ≡ true → Ranges (asGiven g)
+  unfolding steeringFits watchFits
   in-ranges e f =
       let steers = split ((announce && sync) && (kp && ki)) limit e in
       let few = split (announce && sync) (kp && ki) (steers .0) in
@@ -132,7 +132,7 @@ module _ (g : Given) where
       }
 
   -- and so the types hold them
-  pub as-set : steersOf g ≡ true → watchesOf g ≡ true → narrowedOf g ≡ asGiven g
+  pub as-set : steeringFits g ≡ true → watchFits g ≡ true → narrowedOf g ≡ asGiven g
   as-set e f =
       let r = in-ranges e f in
       rw (

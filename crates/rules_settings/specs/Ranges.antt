@@ -17,14 +17,14 @@ abbrev pub isBetween : ℤ → ℤ → ℤ → Bool
 isBetween low x high = not (ltZ x low) && leZ x high
 
 -- rules 4.3 to 4.7; domain and own port have no range
-unfoldable pub steersOf : Given → Bool
-steersOf g =
+unfoldable pub steeringFits : Given → Bool
+steeringFits g =
     ((isBetween (pos 0) (g .announce) (pos 4) && isBetween (pos 0) (g .sync) (pos 7)) && (isBetween (pos 100) (g .kp) (pos 1000) && isBetween (pos 10) (g .ki) (pos 500)))
     && isBetween (pos 1) (g .limit) (pos 100_000)
 
 -- rules 4.8 to 4.13
-unfoldable pub watchesOf : Given → Bool
-watchesOf g =
+unfoldable pub watchFits : Given → Bool
+watchFits g =
     ((isBetween (pos 2) (g .window) (pos 128) && isBetween (pos 2) (g .minimum) (g .window)) && (isBetween (pos 0) (g .holdoff) (pos 10) && isBetween (pos 0) (g .tolerance) (pos 100_000_000)))
     && (isBetween (pos 1) (g .spike) (pos 999_999_998) && (ltZ (g .spike) (g .jump) && leZ (g .jump) (pos 999_999_999)))
 
@@ -48,7 +48,7 @@ setUnlessBarred Clear s = Accepted s
 
 -- the settings, unless one is out of its range (rule 3.54)
 abbrev pub settingsOf : Given → Set
-settingsOf g = setUnlessBarred (firstOf (ofMaking (not (steersOf g && watchesOf g)))) (asGiven g)
+settingsOf g = setUnlessBarred (firstOf (ofMaking (not (steeringFits g && watchFits g)))) (asGiven g)
 
 -- the settings of no unit
 abbrev pub bareSettings : Settings

@@ -3,7 +3,7 @@ ghost use mathlib.Core.Path.{_≡_};
 ghost use mathlib.Core.Bool.{_&&_};
 ghost use Prim.Native.Nat.{min};
 ghost use Rattle.numbers.specs.Integers.{up};
-ghost use Rattle.rules_settings.specs.Ranges.{isBetween, steersOf, watchesOf, settingsOf, bareSettings};
+ghost use Rattle.rules_settings.specs.Ranges.{isBetween, steeringFits, watchFits, settingsOf, bareSettings};
 ghost use Rattle.rules_settings.specs.Inner.{narrowedOf};
 use numbers::refusal::Refusal;
 use numbers::units::Ppb;
@@ -101,8 +101,8 @@ fn narrow(x: i64, high: u32) -> u32
 
 impl Given {
     // The exponents, the gains and the limit are in their ranges.
-    fn steers(self) -> bool
-        ensures { λ r. ⌜ r ≡ steersOf self ⌝ }
+    fn steering_fits(self) -> bool
+        ensures { λ r. ⌜ r ≡ steeringFits self ⌝ }
     {
         let exponents = both(between(0, self.announce, 4), between(0, self.sync, 7));
         let gains = both(between(100, self.kp, 1000), between(10, self.ki, 500));
@@ -110,8 +110,8 @@ impl Given {
     }
 
     // Those of the watch are.
-    fn watches(self) -> bool
-        ensures { λ r. ⌜ r ≡ watchesOf self ⌝ }
+    fn watch_fits(self) -> bool
+        ensures { λ r. ⌜ r ≡ watchFits self ⌝ }
     {
         let samples = both(
             between(2, self.window, 128),
@@ -155,8 +155,8 @@ impl Given {
     pub fn settings(self) -> Set
         ensures { λ r. ⌜ r ≡ settingsOf self ⌝ }
     {
-        if self.steers() {
-            if self.watches() {
+        if self.steering_fits() {
+            if self.watch_fits() {
                 return Set::Accepted(self.narrowed());
             }
         }

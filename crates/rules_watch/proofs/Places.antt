@@ -13,20 +13,20 @@ use Rattle.rules_watch.specs.declared.settings.WatchSettings.{WatchSetti
 use Rattle.rules_watch.specs.declared.window.Sample.{Sample}
 use Rattle.rules_watch.specs.declared.window.Head.{Head}
 use Rattle.rules_watch.specs.declared.Watch.{Watch}
-use Rattle.rules_watch.specs.Window.{lastN, rot, isValid, markOf, sampleAt, countUp, ringOf, heldIn}
+use Rattle.rules_watch.specs.Window.{lastN, rot, isValid, markOf, sampleAt, numbersFrom, ringOf, heldIn}
 use Rattle.rules_watch.specs.Totals.{upFrom, points, pointsOf}
 use Rattle.rules_watch.specs.Watch.{samplesIn, freshWatch, pushed, watchLine, unreferenced, lineIn}
 use Rattle.rules_watch.specs.Inner.{blank}
 use Rattle.rules_watch.proofs.Ring.{held-pushed, held-none, held-last}
 
 -- ---- the ring's places
-count-length : (k n : ℕ) → length (countUp k n) ≡ n
-unfolding countUp
+count-length : (k n : ℕ) → length (numbersFrom k n) ≡ n
+unfolding numbersFrom
 count-length k zero = refl
 count-length k (suc n) = ap suc (count-length (suc k) n)
 
-map-count : {A : Type 0} (f : ℕ → A) (d : A) (k n i : ℕ) → i < n → getD (map f (countUp k n)) i d ≡ f (k + i)
-unfolding countUp
+map-count : {A : Type 0} (f : ℕ → A) (d : A) (k n i : ℕ) → i < n → getD (map f (numbersFrom k n)) i d ≡ f (k + i)
+unfolding numbersFrom
 map-count f d k zero i h = absurd (omega arith)
 map-count f d k (suc n) zero h = ap f (omega arith)
 map-count f d k (suc n) (suc i) h = map-count f d (suc k) n i (omega arith) ∙ ap f (omega arith)
@@ -34,7 +34,7 @@ map-count f d k (suc n) (suc i) h = map-count f d (suc k) n i (omega arith) ∙ 
 module _ (rs ys : List ℤ) (ms : List ℕ) where
   pub ring-length : length (ringOf rs ys ms) ≡ 128
   unfolding ringOf
-  ring-length = length-map (countUp 0 128) (sampleAt rs ys ms) ∙ count-length 0 128
+  ring-length = length-map (numbersFrom 0 128) (sampleAt rs ys ms) ∙ count-length 0 128
 
   pub ring-at : (i : ℕ) → i < 128 → getD (ringOf rs ys ms) i blank ≡ sampleAt rs ys ms i
   unfolding ringOf
@@ -115,7 +115,7 @@ bare s = record { reference = pos 0; y = s .y; valid = s .valid }
 
 ring-bare : (rs ys : List ℤ) (ms : List ℕ) → map bare (ringOf rs ys ms) ≡ ringOf [] ys ms
 unfolding ringOf bare
-ring-bare rs ys ms = go (countUp 0 128)
+ring-bare rs ys ms = go (numbersFrom 0 128)
   where
     go : (l : List ℕ) → map bare (map (sampleAt rs ys ms) l) ≡ map (sampleAt [] ys ms) l
     go [] = refl

@@ -29,13 +29,13 @@ abbrev pub sampleAt : List ℤ → List ℤ → List ℕ → ℕ → Sample
 sampleAt references ys marks i = record { reference = getD references i (pos 0); y = getD ys i (pos 0); valid = isValid (getD marks i 0) }
 
 -- n numbers, k and up
-unfoldable pub countUp : ℕ → ℕ → List ℕ
-countUp k zero = []
-countUp k (suc n) = k ∷ countUp (suc k) n
+unfoldable pub numbersFrom : ℕ → ℕ → List ℕ
+numbersFrom k zero = []
+numbersFrom k (suc n) = k ∷ numbersFrom (suc k) n
 
 -- three columns read as one ring of samples
 unfoldable pub ringOf : List ℤ → List ℤ → List ℕ → List Sample
-ringOf references ys marks = map (sampleAt references ys marks) (countUp 0 128)
+ringOf references ys marks = map (sampleAt references ys marks) (numbersFrom 0 128)
 
 -- what is held of a ring, oldest first: of its places, read round from the one that is written next, the last `len`
 unfoldable pub heldIn : Head → List Sample → List Sample

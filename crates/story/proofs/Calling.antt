@@ -43,7 +43,7 @@ use Rattle.story_exchange.proofs.Refines.{step as exchange-step}
 use Rattle.story_masters.specs.History.{passes, log as seatsAfter}
 use Rattle.story_masters.proofs.Refines.{Tells as SeatTells, step-now}
 use Rattle.story_lists.specs.Reading.{all, since}
-use Rattle.story.specs.Book.{Book, entry, aHappening, happeningBy, aRequestCall, anExchangeEntry, toldBy, chosen, faulty, sequence, staysIn, seats, exchangeLog}
+use Rattle.story.specs.Book.{Book, entry, aHappening, happeningBy, aRequestCall, anExchangeEntry, saidBy, chosen, faulty, sequence, staysIn, seats, exchangeLog}
 use Rattle.story.specs.Saying.{unlessBarred, calling, fromMaster, messageAnswer}
 use Rattle.story.proofs.Tells.{Tells, Agrees}
 use Rattle.story.proofs.Exchanging.{Plain, wiped-tells, same-output, exchange-told}
@@ -86,7 +86,7 @@ module _ (s : Settings) (b : Book) (p : Past) (h : Tells s b p) where
     abbrev pub Hears : Body → Type 0
     Hears body = Agrees s b p (Heard body) (p .table) (messageAnswer s b now t2 hd body) (hears s K (p .progress) now t2 hd body)
 
-    plain : (body : Body) (e : Event) → ltb now (K .now) ≡ false → ((u : Answer) (said : Said) → toldBy u ≡ some said → anExchangeEntry (s .own) (entry (Heard body) u) ≡ some (exchangeEntry e said))
+    plain : (body : Body) (e : Event) → ltb now (K .now) ≡ false → ((u : Answer) (said : Said) → saidBy u ≡ some said → anExchangeEntry (s .own) (entry (Heard body) u) ≡ some (exchangeEntry e said))
         → happeningBy now hd body ≡ passes now → Plain s b p (Heard body) now e (withNow now K)
     unfolding all
     plain body e q i c =
@@ -100,7 +100,7 @@ module _ (s : Settings) (b : Book) (p : Past) (h : Tells s b p) where
         }
 
     -- what the master sends
-    from-master : (body : Body) (e : Event) (field : Bool) → ((u : Answer) (said : Said) → toldBy u ≡ some said → anExchangeEntry (s .own) (entry (Heard body) u) ≡ some (exchangeEntry e said))
+    from-master : (body : Body) (e : Event) (field : Bool) → ((u : Answer) (said : Said) → saidBy u ≡ some said → anExchangeEntry (s .own) (entry (Heard body) u) ≡ some (exchangeEntry e said))
         → happeningBy now hd body ≡ passes now → Agrees s b p (Heard body) (p .table) (fromMaster s b now hd field e) (hearsEvent s K (p .progress) now hd field e)
     from-master body e field i c =
         rw (unless-told s (withNow now K) (p .progress) (p .progress .exchange) e (messageDue s K now hd field) refl refl refl)

@@ -37,7 +37,7 @@ use Rattle.story_exchange.proofs.Refines.{step as exchange-step}
 use Rattle.story_servo.proofs.Refines.{Tells as ServoTells, step as servo-step}
 use Rattle.story_masters.proofs.Refines.{Tells as SeatTells}
 use Rattle.story_lists.specs.Reading.{all, since}
-use Rattle.story.specs.Book.{Book, entry, aWipe, aNow, aRequestCall, aPulse, anExchangeEntry, offsetBy, then, toldBy, chosen, faulty, sequence, staysIn, seats, exchangeLog, offsets, aheadFirst, samplesOf}
+use Rattle.story.specs.Book.{Book, entry, aWipe, aNow, aRequestCall, aPulse, anExchangeEntry, offsetBy, then, saidBy, chosen, faulty, sequence, staysIn, seats, exchangeLog, offsets, aheadFirst, samplesOf}
 use Rattle.story.specs.Saying.{outputOf, unitAnswer}
 use Rattle.story.proofs.Tells.{Tells, Agrees, fresh-servo}
 
@@ -52,7 +52,7 @@ pub record Plain (s : Settings) (b : Book) (p : Past) (call : Call) (now : ℕ) 
   pub requests : (u : Answer) → aRequestCall (entry call u) ≡ none
   pub stays : k ≡ record { now = now; chosen = chosen b; faulty = faulty b; sequence = sequence b }
   pub seats : (u : Answer) → SeatTells (intervalOf (s .announce)) (seats s (entry call u ∷ b)) (record { table = p .table; last = now })
-  pub enters : (u : Answer) (said : Said) → toldBy u ≡ some said → anExchangeEntry (s .own) (entry call u) ≡ some (exchangeEntry e said)
+  pub enters : (u : Answer) (said : Said) → saidBy u ≡ some said → anExchangeEntry (s .own) (entry call u) ≡ some (exchangeEntry e said)
 
 module _ (s : Settings) (b : Book) (p : Past) (h : Tells s b p) where
   -- ---- a wipe

@@ -10,17 +10,17 @@ use Rattle.rules_settings.specs.declared.Settings.{Settings}
 use Rattle.unit_core.specs.declared.calls.Call.{Call}
 use Rattle.unit_core.specs.declared.calls.Call.the-variants as calls
 use Rattle.unit.specs.declared.Unit.{Unit}
-use Rattle.unit.specs.declared.handing.Asked.{Asked}
-use Rattle.unit.specs.declared.handing.Asked.the-variants.{Barred, Asks}
+use Rattle.unit_handing.specs.declared.Asked.{Asked}
+use Rattle.unit_handing.specs.declared.Asked.the-variants.{Barred, Asks}
 use Rattle.unit.specs.Receiving.{receives, tableBy}
 use Rattle.unit.specs.Machine.{Past, effectAfter, past, answerAfter}
 use Rattle.unit.specs.Calls.{tableAfter, freshUnit}
-use Rattle.unit.specs.Handing.{Handed, askedOf, steppedBy, servedOf, servedAll, withAsked, callsIn}
+use Rattle.unit_handing.specs.Handing.{Handed, askedOf, steppedBy, servedOf, servedAll, withAsked, callsIn}
 use Rattle.unit.proofs.Simulation.{played, all-answers}
-use Rattle.unit.proofs.Served.{served-is, calls-reversed}
+use Rattle.unit_handing.proofs.Served.{served-is, calls-reversed}
 use Rattle.story.specs.Book.{Book}
 use Rattle.story.specs.Saying.{messageAnswer, answer}
-use Rattle.story.specs.Tale.{answerTo, writtenBy, book, answerByHistory}
+use Rattle.story.specs.Tale.{answerTo, bookBy, book, answerByHistory}
 use Rattle.story.proofs.Tells.{Tells, start-tells, Agrees}
 use Rattle.story.proofs.Calling.{hears-sync, hears-follow, hears-resp, hears-req, sent-told, request-told, reset-told}
 use Rattle.story.proofs.Others.{announce-told, time-told, tick-told, line-told, show-told}
@@ -48,7 +48,7 @@ module _ (s : Settings) (b : Book) (p : Past) (h : Tells s b p) where
   step calls.Show = show-told s b p h
 
 -- any list of calls, the newest first
-asked-tells : (s : Settings) (b : Book) (before : List Call) → Tells s b (past s before) → (a : Asked) → Tells s (writtenBy s b a) (past s (withAsked a before))
+asked-tells : (s : Settings) (b : Book) (before : List Call) → Tells s b (past s before) → (a : Asked) → Tells s (bookBy s b a) (past s (withAsked a before))
 unfolding past
 asked-tells s b before t (Barred r) = t
 asked-tells s b before t (Asks call) = step s b (past s before) t call .tells

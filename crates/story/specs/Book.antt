@@ -41,14 +41,14 @@ Book = List Entry
 
 -- ---- what an answer says
 -- what the exchange said
-abbrev pub toldBy : Answer → Option Said
-toldBy (answers.Refused n) = none
-toldBy (answers.Choice d) = none
-toldBy (answers.Exchange said output) = some said
-toldBy (answers.Watch p) = none
-toldBy answers.Wiped = none
-toldBy (answers.Line l n) = none
-toldBy (answers.Shows x) = none
+abbrev pub saidBy : Answer → Option Said
+saidBy (answers.Refused n) = none
+saidBy (answers.Choice d) = none
+saidBy (answers.Exchange said output) = some said
+saidBy (answers.Watch p) = none
+saidBy answers.Wiped = none
+saidBy (answers.Line l n) = none
+saidBy (answers.Shows x) = none
 
 -- the choice that was made
 abbrev pub choiceBy : Answer → Option Chosen
@@ -106,7 +106,7 @@ abbrev pub faultBy : Said → Option Said
 faultBy said = cond (faultsOf said) (some said) none
 
 abbrev pub aFault : Entry → Option Said
-aFault (entry call a) = then (toldBy a) faultBy
+aFault (entry call a) = then (saidBy a) faultBy
 
 abbrev pub resetBy : Answer → Option Answer
 resetBy (answers.Refused n) = none
@@ -169,19 +169,19 @@ exchangeEntryOf e (some said) = some (exchangeEntry e said)
 
 -- the request that was written, by its sequenceId
 abbrev pub requestBy : Answer → Option ExchangeEntry
-requestBy a = then (then (toldBy a) askedBy) (λ (n : ℕ). some (exchangeEntry (requested n) (says.Asked n)))
+requestBy a = then (then (saidBy a) askedBy) (λ (n : ℕ). some (exchangeEntry (requested n) (says.Asked n)))
 
-abbrev pub messageBy : Port → Stamp → Header → Body → Option Said → Option ExchangeEntry
-messageBy own t2 h (bodies.Announce stamp offer) a = none
-messageBy own t2 h (bodies.DelayReq t) a = none
-messageBy own t2 h (bodies.Sync t1) a = exchangeEntryOf (sync (twoStepIn h) (h .sequence) (h .correction) t1 t2) a
-messageBy own t2 h (bodies.FollowUp t1) a = exchangeEntryOf (followUp (h .sequence) (h .correction) t1) a
-messageBy own t2 h (bodies.DelayResp t4 p) a = exchangeEntryOf (delayResp (h .sequence) (h .correction) t4 p own) a
+abbrev pub heardBy : Port → Stamp → Header → Body → Option Said → Option ExchangeEntry
+heardBy own t2 h (bodies.Announce stamp offer) a = none
+heardBy own t2 h (bodies.DelayReq t) a = none
+heardBy own t2 h (bodies.Sync t1) a = exchangeEntryOf (sync (twoStepIn h) (h .sequence) (h .correction) t1 t2) a
+heardBy own t2 h (bodies.FollowUp t1) a = exchangeEntryOf (followUp (h .sequence) (h .correction) t1) a
+heardBy own t2 h (bodies.DelayResp t4 p) a = exchangeEntryOf (delayResp (h .sequence) (h .correction) t4 p own) a
 
 abbrev pub anExchangeEntry : Port → Entry → Option ExchangeEntry
-anExchangeEntry own (entry (calls.Receive now arrival m) a) = messageBy own arrival (m .header) (m .body) (toldBy a)
+anExchangeEntry own (entry (calls.Receive now arrival m) a) = heardBy own arrival (m .header) (m .body) (saidBy a)
 anExchangeEntry own (entry (calls.Request now room) a) = requestBy a
-anExchangeEntry own (entry (calls.Sent now n t3) a) = exchangeEntryOf (sent n t3) (toldBy a)
+anExchangeEntry own (entry (calls.Sent now n t3) a) = exchangeEntryOf (sent n t3) (saidBy a)
 anExchangeEntry own (entry (calls.Time now) a) = none
 anExchangeEntry own (entry calls.Reset a) = none
 anExchangeEntry own (entry (calls.Tick r c) a) = none
@@ -199,7 +199,7 @@ offsetBy path = none
 offsetBy (accepted d u o) = some o
 
 abbrev pub anOffset : Entry → Option ℤ
-anOffset (entry call a) = then (then (toldBy a) verdictOf) offsetBy
+anOffset (entry call a) = then (then (saidBy a) verdictOf) offsetBy
 
 abbrev pub offsets : Book → List ℤ
 offsets b = all anOffset (sinceWipe b)

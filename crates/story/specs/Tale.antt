@@ -7,9 +7,9 @@ use Rattle.unit_core.specs.declared.calls.Call.{Call}
 use Rattle.unit_core.specs.declared.calls.Answer.{Answer}
 use Rattle.unit_core.specs.declared.calls.Answer.the-variants.{Refused}
 use Rattle.unit_core.specs.Answers.{isRefusal}
-use Rattle.unit.specs.declared.handing.Asked.{Asked}
-use Rattle.unit.specs.declared.handing.Asked.the-variants.{Barred, Asks}
-use Rattle.unit.specs.Handing.{Handed, askedOf}
+use Rattle.unit_handing.specs.declared.Asked.{Asked}
+use Rattle.unit_handing.specs.declared.Asked.the-variants.{Barred, Asks}
+use Rattle.unit_handing.specs.Handing.{Handed, askedOf}
 use Rattle.story.specs.Book.{Book, entry}
 use Rattle.story.specs.Saying.{answer}
 
@@ -22,13 +22,13 @@ abbrev pub answerTo : Settings → Book → Asked → Answer
 answerTo s b (Barred r) = Refused r
 answerTo s b (Asks call) = answer s b call
 
-abbrev pub writtenBy : Settings → Book → Asked → Book
-writtenBy s b (Barred r) = b
-writtenBy s b (Asks call) = bookWith call (answer s b call) b
+abbrev pub bookBy : Settings → Book → Asked → Book
+bookBy s b (Barred r) = b
+bookBy s b (Asks call) = bookWith call (answer s b call) b
 
 unfoldable pub book : Settings → List (Handed ℕ) → Book
 book s [] = []
-book s (call ∷ before) = writtenBy s (book s before) (askedOf call)
+book s (call ∷ before) = bookBy s (book s before) (askedOf call)
 
 unfoldable pub answerByHistory : Settings → List (Handed ℕ) → Handed ℕ → Answer
 answerByHistory s before call = answerTo s (book s before) (askedOf call)

@@ -16,7 +16,7 @@ use Rattle.rules_exchange.specs.declared.Answer.the-variants.{Refused, Says}
 use Rattle.rules_exchange.specs.declared.said.Said.{Said}
 use Rattle.rules_exchange.specs.declared.said.Said.the-variants.{Held, Paired, Asked, Stamped, Back}
 use Rattle.rules_exchange.specs.Halves.{SyncHalf, awaits, knows, RequestHalf, asked, stamped, syncHalf, requestHalf, heard}
-use Rattle.rules_exchange.specs.Table.{Event, sync, followUp, requested, sent, syncIs, requestIs, rowBy, if-matching}
+use Rattle.rules_exchange.specs.Table.{Event, sync, followUp, requested, sent, putsSync, putsRequest, rowBy, if-matching}
 use Rattle.rules_exchange.specs.Events.{saidWith, refused, withSync, withRequest, withLast, stamp, noLocal, isAbove, stampTaken, follows}
 use Rattle.rules_exchange.proofs.Promises.{sync-held, request-held}
 use Rattle.story_lists.specs.Reading.{all, since, newest, or-else}
@@ -168,7 +168,7 @@ module _ (l : Log) (x : Exchange) (h : Tells l x) where
     follow r = rw (h .sync) (go (heldSync l) refl (origin l) refl)
       where
         if-wanted : (s : ASync) → heldSync l ≡ some s → originOf (some s) (unspent l) ≡ none → (b : Bool) → eqb (s .sequence) n ≡ b
-            → Agrees l Follow (cond b (Says Paired) (Refused Unmatched)) (follows x noLocal (if-matching b (syncIs Paired (knows (s .sequence) t1 (s .t2) (s .correction) c))))
+            → Agrees l Follow (cond b (Says Paired) (Refused Unmatched)) (follows x noLocal (if-matching b (putsSync Paired (knows (s .sequence) t1 (s .t2) (s .correction) c))))
         if-wanted s p q true e = pairing s p q e
         if-wanted s p q false e = refusing Follow Unmatched
 
@@ -205,7 +205,7 @@ module _ (l : Log) (x : Exchange) (h : Tells l x) where
     send s = rw (h .request) (go (pending l) refl (t3 l))
       where
         if-wanted : (m : ℕ) → pending l ≡ some m → (b : Bool) → eqb m n ≡ b
-            → Agrees l Sent (cond b (Says (unlessBack l t Stamped)) (Refused Unmatched)) (follows x (stamp t) (if-matching b (requestIs Stamped (stamped m t))))
+            → Agrees l Sent (cond b (Says (unlessBack l t Stamped)) (Refused Unmatched)) (follows x (stamp t) (if-matching b (putsRequest Stamped (stamped m t))))
         if-wanted m p true e = stamping Sent t Stamped (withRequest x (stamped m t)) (giving m p e)
         if-wanted m p false e = refusing Sent Unmatched
 

@@ -7,6 +7,7 @@ use lib.Dec.{leb, ltb, eqb}
 use lib.IntN.{ℤ, pos, _+ℤ_, _-ℤ_}
 use lib.ListN.{take}
 use Rattle.numbers.specs.Stamps.{belowOf}
+use Rattle.numbers.specs.Integers.{distanceOf}
 use Rattle.numbers.specs.Grounds.{firstOf, answerBy}
 use Rattle.numbers.specs.Orders.{noneDue, ofExchange}
 use Rattle.numbers.specs.declared.stamp.Stamp.{Stamp}
@@ -18,7 +19,6 @@ use Rattle.rules_exchange.specs.declared.said.Said.the-variants.{Held, Paired, 
 use Rattle.rules_measure.specs.declared.Sum.{Sum}
 use Rattle.rules_measure.specs.declared.Sum.the-variants.{Delay, Neg as SumNeg, Long as SumLong}
 use Rattle.rules_delays.specs.Median.{lowerMiddle}
-use Rattle.rules_delays.specs.Delays.{distanceOf}
 use Rattle.rules_measure.specs.Measure.{ns, forwardOf, backOf, sumOf, hugeOf, isStep}
 use Rattle.rules_exchange.specs.Table.{Event, sync, followUp, requested, sent, delayResp, samePort}
 use Rattle.rules_exchange.specs.Events.{eventDue, measuredWith}

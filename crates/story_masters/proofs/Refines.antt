@@ -30,7 +30,7 @@ use Rattle.rules_masters.proofs.Order.{in-order}
 use Rattle.rules_masters.proofs.Standings.{home-same as known-asked, free-same as free-asked, live-same as live-asked, repeat-same as repeat-asked}
 use Rattle.story_lists.specs.Reading.{all, with-it}
 use Rattle.story_masters.specs.Announces.{Log, came, passed, lastNow, Arrival, senderOf, arrivalsAt, places, isHome, betterAnnounce}
-use Rattle.story_masters.specs.Places.{lastIs, home, free, isRepeat, isFull, seatBy, answer, asMaster, chosenIn}
+use Rattle.story_masters.specs.Places.{isLast, home, free, isRepeat, isFull, seatBy, answer, asMaster, chosenIn}
 use Rattle.story_masters.specs.History.{Happening, arrives, passes, logBy, log, Memory, lastAfter, admissionOf, machine}
 use Rattle.story_masters.proofs.Seats.{Seat, seat-later, live-same, home-same, absent-same, renewed, entered as enters}
 use Rattle.story_masters.proofs.Choices.{Alike, place-same, count-same, those-same, choice-same}
@@ -73,7 +73,7 @@ module _ (interval : ℕ) (l : Log) (k : Memory) (h : Tells interval l k) where
 
     -- REPEAT and FULL
     sequence-same : (n : ℕ) (these : List Arrival) (r : Record) → Seat (lastNow l) interval these r → isHome now interval (senderOf m) these ≡ true
-        → eqb (r .announce .header .sequence) n ≡ lastIs n these
+        → eqb (r .announce .header .sequence) n ≡ isLast n these
     sequence-same n [] r s e = absurd (let z : _≡_ {A = ℕ} 0 1 = cc in omega arith)
     sequence-same n (a ∷ these) r s e = rw (s .announce)
 
@@ -83,10 +83,10 @@ module _ (interval : ℕ) (l : Log) (k : Memory) (h : Tells interval l k) where
     abbrev repeatAt : ℕ → Bool
     repeatAt place = getD (map (λ (s : Standing). s .repeats) asked) place false
 
-    repeats : (p : ℕ) → homeIn ≡ p → ltb homeIn 5 && repeatAt homeIn ≡ ltb p 5 && lastIs Number (arrivalsAt p l)
-    repeats p e = go (ltb homeIn 5) refl ∙ ap (λ (q : ℕ). ltb q 5 && lastIs Number (arrivalsAt q l)) e
+    repeats : (p : ℕ) → homeIn ≡ p → ltb homeIn 5 && repeatAt homeIn ≡ ltb p 5 && isLast Number (arrivalsAt p l)
+    repeats p e = go (ltb homeIn 5) refl ∙ ap (λ (q : ℕ). ltb q 5 && isLast Number (arrivalsAt q l)) e
       where
-        go : (b : Bool) → ltb homeIn 5 ≡ b → b && repeatAt homeIn ≡ b && lastIs Number (arrivalsAt homeIn l)
+        go : (b : Bool) → ltb homeIn 5 ≡ b → b && repeatAt homeIn ≡ b && isLast Number (arrivalsAt homeIn l)
         go true f =
             let c = ltb-true homeIn 5 f in
             repeat-asked m interval now T homeIn (rw (h .five) c)

@@ -23,9 +23,9 @@ use Rattle.story_lists.specs.Reading.{all}
 use Rattle.story_masters.specs.Announces.{Log, lastNow, Arrival, senderOf, arrivalsAt, places, isLive, isHome, aQualified, betterAnnounce}
 
 -- the last Announce at a place has this sequenceId
-abbrev pub lastIs : ℕ → List Arrival → Bool
-lastIs n [] = false
-lastIs n (a ∷ l) = eqb (a .announce .header .sequence) n
+abbrev pub isLast : ℕ → List Arrival → Bool
+isLast n [] = false
+isLast n (a ∷ l) = eqb (a .announce .header .sequence) n
 
 module _ (l : Log) (m : Announce) (interval now : ℕ) where
   -- the place where this sender is live, the first of 0 to 4; 5 where there is none
@@ -38,7 +38,7 @@ module _ (l : Log) (m : Announce) (interval now : ℕ) where
 
   -- REPEAT: the sender is live, and its last Announce there has this very sequenceId
   abbrev pub isRepeat : Bool
-  isRepeat = ltb home 5 && lastIs (m .header .sequence) (arrivalsAt home l)
+  isRepeat = ltb home 5 && isLast (m .header .sequence) (arrivalsAt home l)
 
   -- FULL: the sender is not, and all five places are live
   abbrev pub isFull : Bool

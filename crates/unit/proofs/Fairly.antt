@@ -28,7 +28,7 @@ use Rattle.unit_measuring.proofs.Unheard.{not-announce}
 use Rattle.unit.proofs.Fair.{steering, Fair, fair-heard, fair-announce, fair-request, fair-sent, fair-time}
 use Rattle.unit.specs.declared.Unit.{Unit}
 use Rattle.unit.specs.Receiving.{receives, tableBy}
-use Rattle.unit.specs.Calls.{effectOf, steppedWith, unitAfter, applied, unitEffect, unitTable, stepOf}
+use Rattle.unit.specs.Calls.{effectOf, steppedWith, steppedAfter, applied, unitEffect, unitTable, stepOf}
 
 -- a pulse takes a sample, or wipes: the watch's laws speak of it
 abbrev pub Fairly : ℕ → Call → Effect → Type 0
@@ -82,7 +82,7 @@ module _ (c : Unit) where
 
   -- a message of any kind but the Announce, whose number is 4 among the kinds as they are declared
   pub put-heard : (now : ℕ) (arrival : Stamp) (h : Header) (b : Body) → OneOf (0 ∷ 1 ∷ 2 ∷ 3 ∷ []) (tagOf the-type b)
-      → unitAfter c (movedBy (c .core) (c .servo) (hears (c .core .settings) (staysOf (c .core)) (progressOf (c .core) (c .servo)) now arrival h b))
+      → steppedAfter c (movedBy (c .core) (c .servo) (hears (c .core .settings) (staysOf (c .core)) (progressOf (c .core) (c .servo)) now arrival h b))
       ≡ applied c (tableBy (c .core .settings) (staysOf (c .core)) (c .table) now h b) (receives (c .core .settings) (staysOf (c .core)) (progressOf (c .core) (c .servo)) (c .table) now arrival h b)
   put-heard now arrival h (bodies.Announce stamp offer) o = absurd (not-announce o)
   put-heard now arrival h (bodies.DelayReq stamp) o = let call = Receive now arrival (record { header = h; body = bodies.DelayReq stamp }) in put-call call (fair call)
@@ -91,7 +91,7 @@ module _ (c : Unit) where
   put-heard now arrival h (bodies.DelayResp t4 requester) o = let call = Receive now arrival (record { header = h; body = bodies.DelayResp t4 requester }) in put-call call (fair call)
 
   -- a pulse has left its watch already, and a wipe leaves it fresh
-  pub put-pulse : (e : Effect) → unitAfter (record { core = c .core; servo = c .servo; table = c .table; watch = sampledBy (c .core .settings .watch) (c .watch) e }) (movedBy (c .core) (c .servo) e) ≡ applied c (c .table) e
+  pub put-pulse : (e : Effect) → steppedAfter (record { core = c .core; servo = c .servo; table = c .table; watch = sampledBy (c .core .settings .watch) (c .watch) e }) (movedBy (c .core) (c .servo) e) ≡ applied c (c .table) e
   put-pulse (keeps a) = refl
   put-pulse (goes a k r) = refl
   put-pulse (takes origin x) = refl

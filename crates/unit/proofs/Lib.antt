@@ -6,5 +6,3 @@ pub mod Refusals
 pub mod Faults
 pub mod Wipes
 pub mod Simulation
-pub mod Served
-pub mod Numbers

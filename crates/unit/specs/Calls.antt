@@ -58,8 +58,8 @@ freshUnit s = record { core = freshCore s; servo = restoredServo s; table = fres
 abbrev pub steppedWith : Moved → Table → Watch → Stepped
 steppedWith m t w = record { answer = m .answer; unit = record { core = m .core; servo = m .servo; table = t; watch = w } }
 
-abbrev pub unitAfter : Unit → Moved → Stepped
-unitAfter c m = steppedWith m (c .table) (cond (m .wipes) freshWatch (c .watch))
+abbrev pub steppedAfter : Unit → Moved → Stepped
+steppedAfter c m = steppedWith m (c .table) (cond (m .wipes) freshWatch (c .watch))
 
 -- the watch after an effect: a wipe makes it fresh
 abbrev pub watchBy : WatchSettings → Watch → Effect → Watch

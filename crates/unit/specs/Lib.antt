@@ -1,4 +1,3 @@
 pub mod Receiving
 pub mod Calls
-pub mod Handing
 pub mod Machine

@@ -1,10 +1,8 @@
 // The unit whole: its core with its servo, its table of masters and its watch. One step for each call.
-pub mod handing;
-
 ghost use mathlib.Core.Path.{_≡_};
 ghost use lib.ListN.{length};
 ghost use Rattle.unit_measuring.specs.Frame.{frameAfter};
-ghost use Rattle.unit.specs.Calls.{freshUnit, unitAfter, receiveOf, stepOf};
+ghost use Rattle.unit.specs.Calls.{freshUnit, steppedAfter, receiveOf, stepOf};
 use numbers::stamp::Stamp;
 use rules_masters::record::Announce;
 use rules_masters::table::Table;
@@ -56,7 +54,7 @@ impl Unit {
 
     // Core and servo as a call left them, and a fresh watch where it wiped.
     fn after(mut self, moved: Moved) -> Stepped
-        ensures { λ r. ⌜ r ≡ unitAfter self moved ⌝ }
+        ensures { λ r. ⌜ r ≡ steppedAfter self moved ⌝ }
     {
         let core = moved.core;
         let servo = moved.servo;

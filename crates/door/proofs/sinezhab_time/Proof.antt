@@ -15,7 +15,7 @@ use Rattle.rules_masters.specs.Records.{intervalOf}
 use Rattle.rules_masters.specs.Inner.{candidateOf, bestOf}
 use Rattle.door_records.specs.Masters.{recordIn}
 use Rattle.door_choosing.specs.Choosing.{timedOf, untabledOf}
-use Rattle.door_loop.specs.Lending.{Lent, heldIn, noMaster}
+use Rattle.door_loop.specs.Lending.{Lent, lentBy, freshMaster}
 use Rattle.door_loop.proofs.Ways.{held-left, best-is, time-untabled, time-is}
 use Rattle.rules_masters.specs.declared.chosen.Chosen.{Chosen}
 use Rattle.door.proofs.sinezhab_time.Key.{name as #this}
@@ -68,15 +68,15 @@ module _ {M : Type 1} (𝓤 : URA M) (H : Heap 𝓤) (A : Atoms 𝓤) (W : Given
           opens ! tt K-AnswerWords a6 h6 (λ g-4. assigns ! (of-opd ! (load ! (from ! (stop !)) (look ! 20 refl))) (from ! (hop ! (look ! 32 refl) (stop !))) (store ! 0 refl (typed W is-3)) $ closes ! tt a6 h6 is-3 $
           forget ! 31 refl $ forget ! 19 refl $ from-3-3 qq ee bad p-1 e-2 is-3))
 
-      from-28 : (good : Holds (not (not (eqb (length h3) 5)))) (g-6 : Fits K-SettingsWords (h1 .settings)) (g-8 : Fits K-StateWords (h1 .state)) (p-9 : ℕ) (e-10 : p-9 ≡ intervalOf ((h1 .settings) .announce)) (is-11 : Fits K-u32 p-9) (g-13 : Fits K-MasterWords (getD h3 0 noMaster)) (p-14 : (of K-Candidate)) (e-15 : p-14 ≡ candidateOf h5 p-9 (recordIn (getD h3 0 noMaster))) (is-16 : Fits K-Candidate p-14) (g-18 : Fits K-MasterWords (getD h3 1 noMaster)) (p-19 : (of K-Candidate)) (e-20 : p-19 ≡ candidateOf h5 p-9 (recordIn (getD h3 1 noMaster))) (is-21 : Fits K-Candidate p-19) (g-23 : Fits K-MasterWords (getD h3 2 noMaster)) (p-24 : (of K-Candidate)) (e-25 : p-24 ≡ candidateOf h5 p-9 (recordIn (getD h3 2 noMaster))) (is-26 : Fits K-Candidate p-24) (g-28 : Fits K-MasterWords (getD h3 3 noMaster)) (p-29 : (of K-Candidate)) (e-30 : p-29 ≡ candidateOf h5 p-9 (recordIn (getD h3 3 noMaster))) (is-31 : Fits K-Candidate p-29) (g-33 : Fits K-MasterWords (getD h3 4 noMaster)) (p-34 : (of K-Candidate)) (e-35 : p-34 ≡ candidateOf h5 p-9 (recordIn (getD h3 4 noMaster))) (is-36 : Fits K-Candidate p-34) (p-37 : (of K-Held)) (e-38 : p-37 ≡ timedOf (h1 .state) h5 (bestOf p-14 p-19 p-24 p-29 p-34)) (is-39 : Fits K-Held p-37) (zs-56 : (of K-UnitWords)) (zs-57 : (of K-Servo)) (zs-58 : (of K-Watch)) (zs-59 : (of K-AnswerWords)) (p-52 : (Unit {0})) (e-54 : (zs-56 ≡ heldIn h1 h2 [] h4 p-37 .unit) × (zs-57 ≡ heldIn h1 h2 [] h4 p-37 .servo) × (zs-58 ≡ heldIn h1 h2 [] h4 p-37 .watch) × (zs-59 ≡ heldIn h1 h2 [] h4 p-37 .answer)) (is-55 : Fits K-unit p-52) → Sq W (‵ (lent K-AnswerWords a6 zs-59) ∷ ‵ (lent K-Watch a4 zs-58) ∷ ‵ (lent K-Servo a2 zs-57) ∷ ‵ (lent K-UnitWords a1 zs-56) ∷ ‵ (slice K-MasterWords a3 (length h3) h3) ∷ ‵ (ftrue) ∷ ‵ ((row-of K-u64) .own h5 ((K-u64 .val h5) ∷ [])) ∷ leave-all ∷ ‵ (froom (tyRef erased mut (pointee (row-of K-AnswerWords .written))) l29 0) ∷ ‵ (froom (tyRef erased mut (pointee (row-of K-Watch .written))) l28 0) ∷ ‵ (froom (tyRef erased mut (pointee (row-of K-Servo .written))) l27 0) ∷ ‵ (froom (tyRef erased mut (pointee (row-of K-UnitWords .written))) l26 0) ∷ ‵ (froom tyUnit l25 0) ∷ ‵ (froom tyPtr l24 0) ∷ ‵ (froom tyPtr l23 0) ∷ ‵ (froom tyPtr l22 0) ∷ ‵ (froom tyPtr l21 0) ∷ ‵ (froom (ty K-MasterWords) l20 0) ∷ ‵ (froom tyPtr l19 0) ∷ ‵ (froom (ty K-AnswerWords) l18 0) ∷ ‵ (froom tyBool l17 0) ∷ ‵ (froom (tyInt w64) l16 0) ∷ ‵ (froom (ty K-Held) l15 0) ∷ ‵ (froom (ty K-Candidate) l14 0) ∷ ‵ (froom (ty K-Candidate) l13 0) ∷ ‵ (froom (ty K-Candidate) l12 0) ∷ ‵ (froom (ty K-Candidate) l11 0) ∷ ‵ (froom (ty K-Candidate) l10 0) ∷ ‵ (froom (tyInt w32) l9 0) ∷ ‵ (froom (ty K-StateWords) l8 0) ∷ ‵ (froom (ty K-SettingsWords) l7 0) ∷ ‵ (froom (tyRef (named 4) mut (pointee (row-of K-AnswerWords .written))) l6 0) ∷ ‵ (froom (tyInt w64) l5 0) ∷ ‵ (froom (tyRef (named 3) mut (pointee (row-of K-Watch .written))) l4 0) ∷ ‵ (froom (sliceTy (tyRef (named 2) mut (pointee (row-of K-MasterWords .written)))) l3 0) ∷ ‵ (froom (tyRef (named 1) mut (pointee (row-of K-Servo .written))) l2 0) ∷ ‵ (froom (tyRef (named 0) mut (pointee (row-of K-UnitWords .written))) l1 0) ∷ ‵ (froom tyUnit l0 0) ∷ []) (runs C Λ En mir′.t-28 (atRet En Post))
+      from-28 : (good : Holds (not (not (eqb (length h3) 5)))) (g-6 : Fits K-SettingsWords (h1 .settings)) (g-8 : Fits K-StateWords (h1 .state)) (p-9 : ℕ) (e-10 : p-9 ≡ intervalOf ((h1 .settings) .announce)) (is-11 : Fits K-u32 p-9) (g-13 : Fits K-MasterWords (getD h3 0 freshMaster)) (p-14 : (of K-Candidate)) (e-15 : p-14 ≡ candidateOf h5 p-9 (recordIn (getD h3 0 freshMaster))) (is-16 : Fits K-Candidate p-14) (g-18 : Fits K-MasterWords (getD h3 1 freshMaster)) (p-19 : (of K-Candidate)) (e-20 : p-19 ≡ candidateOf h5 p-9 (recordIn (getD h3 1 freshMaster))) (is-21 : Fits K-Candidate p-19) (g-23 : Fits K-MasterWords (getD h3 2 freshMaster)) (p-24 : (of K-Candidate)) (e-25 : p-24 ≡ candidateOf h5 p-9 (recordIn (getD h3 2 freshMaster))) (is-26 : Fits K-Candidate p-24) (g-28 : Fits K-MasterWords (getD h3 3 freshMaster)) (p-29 : (of K-Candidate)) (e-30 : p-29 ≡ candidateOf h5 p-9 (recordIn (getD h3 3 freshMaster))) (is-31 : Fits K-Candidate p-29) (g-33 : Fits K-MasterWords (getD h3 4 freshMaster)) (p-34 : (of K-Candidate)) (e-35 : p-34 ≡ candidateOf h5 p-9 (recordIn (getD h3 4 freshMaster))) (is-36 : Fits K-Candidate p-34) (p-37 : (of K-Held)) (e-38 : p-37 ≡ timedOf (h1 .state) h5 (bestOf p-14 p-19 p-24 p-29 p-34)) (is-39 : Fits K-Held p-37) (zs-56 : (of K-UnitWords)) (zs-57 : (of K-Servo)) (zs-58 : (of K-Watch)) (zs-59 : (of K-AnswerWords)) (p-52 : (Unit {0})) (e-54 : (zs-56 ≡ lentBy h1 h2 [] h4 p-37 .unit) × (zs-57 ≡ lentBy h1 h2 [] h4 p-37 .servo) × (zs-58 ≡ lentBy h1 h2 [] h4 p-37 .watch) × (zs-59 ≡ lentBy h1 h2 [] h4 p-37 .answer)) (is-55 : Fits K-unit p-52) → Sq W (‵ (lent K-AnswerWords a6 zs-59) ∷ ‵ (lent K-Watch a4 zs-58) ∷ ‵ (lent K-Servo a2 zs-57) ∷ ‵ (lent K-UnitWords a1 zs-56) ∷ ‵ (slice K-MasterWords a3 (length h3) h3) ∷ ‵ (ftrue) ∷ ‵ ((row-of K-u64) .own h5 ((K-u64 .val h5) ∷ [])) ∷ leave-all ∷ ‵ (froom (tyRef erased mut (pointee (row-of K-AnswerWords .written))) l29 0) ∷ ‵ (froom (tyRef erased mut (pointee (row-of K-Watch .written))) l28 0) ∷ ‵ (froom (tyRef erased mut (pointee (row-of K-Servo .written))) l27 0) ∷ ‵ (froom (tyRef erased mut (pointee (row-of K-UnitWords .written))) l26 0) ∷ ‵ (froom tyUnit l25 0) ∷ ‵ (froom tyPtr l24 0) ∷ ‵ (froom tyPtr l23 0) ∷ ‵ (froom tyPtr l22 0) ∷ ‵ (froom tyPtr l21 0) ∷ ‵ (froom (ty K-MasterWords) l20 0) ∷ ‵ (froom tyPtr l19 0) ∷ ‵ (froom (ty K-AnswerWords) l18 0) ∷ ‵ (froom tyBool l17 0) ∷ ‵ (froom (tyInt w64) l16 0) ∷ ‵ (froom (ty K-Held) l15 0) ∷ ‵ (froom (ty K-Candidate) l14 0) ∷ ‵ (froom (ty K-Candidate) l13 0) ∷ ‵ (froom (ty K-Candidate) l12 0) ∷ ‵ (froom (ty K-Candidate) l11 0) ∷ ‵ (froom (ty K-Candidate) l10 0) ∷ ‵ (froom (tyInt w32) l9 0) ∷ ‵ (froom (ty K-StateWords) l8 0) ∷ ‵ (froom (ty K-SettingsWords) l7 0) ∷ ‵ (froom (tyRef (named 4) mut (pointee (row-of K-AnswerWords .written))) l6 0) ∷ ‵ (froom (tyInt w64) l5 0) ∷ ‵ (froom (tyRef (named 3) mut (pointee (row-of K-Watch .written))) l4 0) ∷ ‵ (froom (sliceTy (tyRef (named 2) mut (pointee (row-of K-MasterWords .written)))) l3 0) ∷ ‵ (froom (tyRef (named 1) mut (pointee (row-of K-Servo .written))) l2 0) ∷ ‵ (froom (tyRef (named 0) mut (pointee (row-of K-UnitWords .written))) l1 0) ∷ ‵ (froom tyUnit l0 0) ∷ []) (runs C Λ En mir′.t-28 (atRet En Post))
       from-28 good g-6 g-8 p-9 e-10 is-11 g-13 p-14 e-15 is-16 g-18 p-19 e-20 is-21 g-23 p-24 e-25 is-26 g-28 p-29 e-30 is-31 g-33 p-34 e-35 is-36 p-37 e-38 is-39 zs-56 zs-57 zs-58 zs-59 p-52 e-54 is-55 =
           assigns ! (of-opd ! (unit-lit !)) (from ! (stop !)) (init ! 37 refl (tt, tt)) $
           returns ! (look ! 37 refl) $ forget ! 37 refl $ move ! (7 ∷ 8 ∷ 9 ∷ 10 ∷ 11 ∷ 12 ∷ 13 ∷ 14 ∷ 15 ∷ 16 ∷ 17 ∷ 18 ∷ 19 ∷ 20 ∷ 21 ∷ 22 ∷ 23 ∷ 24 ∷ 25 ∷ 26 ∷ 27 ∷ 28 ∷ 29 ∷ 30 ∷ 31 ∷ 32 ∷ 33 ∷ 34 ∷ 35 ∷ 36 ∷ 37 ∷ []) $ frees-all ! (code.function .locals) blocks (
           suffices ! _ (ends-at 𝓤 H A this.ended stayed (this.clauses 𝓤 H A at-mem run) W bound vunit tt (zs-56, (zs-57, (h3, (zs-58, (tt, (zs-59, tt)))))) (tt, (tt, (refl, (tt, (tt, (tt, tt))))))) $
-          says ! (ap (λ (d : Lent). d .answer) (held-left h1 h2 h3 h4 p-37 e-54 ∙ ap (λ (q : SHeld.Held). heldIn h1 h2 h3 h4 q) (e-38 ∙ ap (λ (m : Chosen). timedOf (h1 .state) h5 m) (best-is h1 h3 h5 p-9 p-14 p-19 p-24 p-29 p-34 e-10 e-15 e-20 e-25 e-30 e-35)) ∙ time-is h1 h2 h3 h4 h5 good), ap (λ (d : Lent). d .unit) (held-left h1 h2 h3 h4 p-37 e-54 ∙ ap (λ (q : SHeld.Held). heldIn h1 h2 h3 h4 q) (e-38 ∙ ap (λ (m : Chosen). timedOf (h1 .state) h5 m) (best-is h1 h3 h5 p-9 p-14 p-19 p-24 p-29 p-34 e-10 e-15 e-20 e-25 e-30 e-35)) ∙ time-is h1 h2 h3 h4 h5 good), ap (λ (d : Lent). d .servo) (held-left h1 h2 h3 h4 p-37 e-54 ∙ ap (λ (q : SHeld.Held). heldIn h1 h2 h3 h4 q) (e-38 ∙ ap (λ (m : Chosen). timedOf (h1 .state) h5 m) (best-is h1 h3 h5 p-9 p-14 p-19 p-24 p-29 p-34 e-10 e-15 e-20 e-25 e-30 e-35)) ∙ time-is h1 h2 h3 h4 h5 good), ap (λ (d : Lent). d .table) (held-left h1 h2 h3 h4 p-37 e-54 ∙ ap (λ (q : SHeld.Held). heldIn h1 h2 h3 h4 q) (e-38 ∙ ap (λ (m : Chosen). timedOf (h1 .state) h5 m) (best-is h1 h3 h5 p-9 p-14 p-19 p-24 p-29 p-34 e-10 e-15 e-20 e-25 e-30 e-35)) ∙ time-is h1 h2 h3 h4 h5 good), ap (λ (d : Lent). d .watch) (held-left h1 h2 h3 h4 p-37 e-54 ∙ ap (λ (q : SHeld.Held). heldIn h1 h2 h3 h4 q) (e-38 ∙ ap (λ (m : Chosen). timedOf (h1 .state) h5 m) (best-is h1 h3 h5 p-9 p-14 p-19 p-24 p-29 p-34 e-10 e-15 e-20 e-25 e-30 e-35)) ∙ time-is h1 h2 h3 h4 h5 good)) $
+          says ! (ap (λ (d : Lent). d .answer) (held-left h1 h2 h3 h4 p-37 e-54 ∙ ap (λ (q : SHeld.Held). lentBy h1 h2 h3 h4 q) (e-38 ∙ ap (λ (m : Chosen). timedOf (h1 .state) h5 m) (best-is h1 h3 h5 p-9 p-14 p-19 p-24 p-29 p-34 e-10 e-15 e-20 e-25 e-30 e-35)) ∙ time-is h1 h2 h3 h4 h5 good), ap (λ (d : Lent). d .unit) (held-left h1 h2 h3 h4 p-37 e-54 ∙ ap (λ (q : SHeld.Held). lentBy h1 h2 h3 h4 q) (e-38 ∙ ap (λ (m : Chosen). timedOf (h1 .state) h5 m) (best-is h1 h3 h5 p-9 p-14 p-19 p-24 p-29 p-34 e-10 e-15 e-20 e-25 e-30 e-35)) ∙ time-is h1 h2 h3 h4 h5 good), ap (λ (d : Lent). d .servo) (held-left h1 h2 h3 h4 p-37 e-54 ∙ ap (λ (q : SHeld.Held). lentBy h1 h2 h3 h4 q) (e-38 ∙ ap (λ (m : Chosen). timedOf (h1 .state) h5 m) (best-is h1 h3 h5 p-9 p-14 p-19 p-24 p-29 p-34 e-10 e-15 e-20 e-25 e-30 e-35)) ∙ time-is h1 h2 h3 h4 h5 good), ap (λ (d : Lent). d .table) (held-left h1 h2 h3 h4 p-37 e-54 ∙ ap (λ (q : SHeld.Held). lentBy h1 h2 h3 h4 q) (e-38 ∙ ap (λ (m : Chosen). timedOf (h1 .state) h5 m) (best-is h1 h3 h5 p-9 p-14 p-19 p-24 p-29 p-34 e-10 e-15 e-20 e-25 e-30 e-35)) ∙ time-is h1 h2 h3 h4 h5 good), ap (λ (d : Lent). d .watch) (held-left h1 h2 h3 h4 p-37 e-54 ∙ ap (λ (q : SHeld.Held). lentBy h1 h2 h3 h4 q) (e-38 ∙ ap (λ (m : Chosen). timedOf (h1 .state) h5 m) (best-is h1 h3 h5 p-9 p-14 p-19 p-24 p-29 p-34 e-10 e-15 e-20 e-25 e-30 e-35)) ∙ time-is h1 h2 h3 h4 h5 good)) $
           move ! (3 ∷ []) $ gives ! K-UnitWords a1 zs-56 $ move ! (4 ∷ []) $ gives ! K-Servo a2 zs-57 $ move ! (6 ∷ []) $ hands ! K-MasterWords a3 (length h3) h3 $ move ! (7 ∷ []) $ gives ! K-Watch a4 zs-58 $ move ! (8 ∷ []) $ gives ! K-AnswerWords a6 zs-59 $ nothing ! $ move ! (2 ∷ 0 ∷ []) $ join ! $ move ! (3 ∷ 0 ∷ []) $ join ! $ move ! (4 ∷ 0 ∷ []) $ join ! $ move ! (5 ∷ 0 ∷ []) $ join ! $ move ! (6 ∷ 0 ∷ []) $ join ! $ frame ! $ move ! (0 ∷ 5 ∷ []) $ fjoin ! $ move ! (5 ∷ 0 ∷ []) $ fjoin ! $ move ! (1 ∷ 0 ∷ []) $ fjoin ! $ move ! (1 ∷ 0 ∷ []) $ fjoin ! $ move ! (1 ∷ 0 ∷ []) $ fjoin ! $ move ! (1 ∷ 0 ∷ []) $ fjoin ! $ frame ! $ feqI ! (List Val) (vunit ∷ []) (vunit ∷ []) refl $ done !)
 
-      from-23 : (good : Holds (not (not (eqb (length h3) 5)))) (g-6 : Fits K-SettingsWords (h1 .settings)) (g-8 : Fits K-StateWords (h1 .state)) (p-9 : ℕ) (e-10 : p-9 ≡ intervalOf ((h1 .settings) .announce)) (is-11 : Fits K-u32 p-9) (g-13 : Fits K-MasterWords (getD h3 0 noMaster)) (p-14 : (of K-Candidate)) (e-15 : p-14 ≡ candidateOf h5 p-9 (recordIn (getD h3 0 noMaster))) (is-16 : Fits K-Candidate p-14) (g-18 : Fits K-MasterWords (getD h3 1 noMaster)) (p-19 : (of K-Candidate)) (e-20 : p-19 ≡ candidateOf h5 p-9 (recordIn (getD h3 1 noMaster))) (is-21 : Fits K-Candidate p-19) (g-23 : Fits K-MasterWords (getD h3 2 noMaster)) (p-24 : (of K-Candidate)) (e-25 : p-24 ≡ candidateOf h5 p-9 (recordIn (getD h3 2 noMaster))) (is-26 : Fits K-Candidate p-24) (g-28 : Fits K-MasterWords (getD h3 3 noMaster)) (p-29 : (of K-Candidate)) (e-30 : p-29 ≡ candidateOf h5 p-9 (recordIn (getD h3 3 noMaster))) (is-31 : Fits K-Candidate p-29) (g-33 : Fits K-MasterWords (getD h3 4 noMaster)) (p-34 : (of K-Candidate)) (e-35 : p-34 ≡ candidateOf h5 p-9 (recordIn (getD h3 4 noMaster))) (is-36 : Fits K-Candidate p-34) (p-37 : (of K-Held)) (e-38 : p-37 ≡ timedOf (h1 .state) h5 (bestOf p-14 p-19 p-24 p-29 p-34)) (is-39 : Fits K-Held p-37) → Sq W (‵ (slice K-MasterWords a3 (length h3) h3) ∷ ‵ (lent K-UnitWords a1 h1) ∷ ‵ (lent K-AnswerWords a6 h6) ∷ ‵ (lent K-Watch a4 h4) ∷ ‵ (lent K-Servo a2 h2) ∷ ‵ (ftrue) ∷ ‵ ((row-of K-u64) .own h5 ((K-u64 .val h5) ∷ [])) ∷ leave-all ∷ ‵ (froom (tyRef erased mut (pointee (row-of K-AnswerWords .written))) l29 0) ∷ ‵ (froom (tyRef erased mut (pointee (row-of K-Watch .written))) l28 0) ∷ ‵ (froom (tyRef erased mut (pointee (row-of K-Servo .written))) l27 0) ∷ ‵ (froom (tyRef erased mut (pointee (row-of K-UnitWords .written))) l26 0) ∷ ‵ (froom tyUnit l25 0) ∷ ‵ (froom tyPtr l24 0) ∷ ‵ (froom tyPtr l23 0) ∷ ‵ (froom tyPtr l22 0) ∷ ‵ (froom tyPtr l21 0) ∷ ‵ (froom (ty K-MasterWords) l20 0) ∷ ‵ (froom tyPtr l19 0) ∷ ‵ (froom (ty K-AnswerWords) l18 0) ∷ ‵ (froom tyBool l17 0) ∷ ‵ (froom (tyInt w64) l16 0) ∷ ‵ (fat fullShare (ty K-Held) l15 0 (K-Held .val p-37)) ∷ ‵ (froom (ty K-Candidate) l14 0) ∷ ‵ (froom (ty K-Candidate) l13 0) ∷ ‵ (froom (ty K-Candidate) l12 0) ∷ ‵ (froom (ty K-Candidate) l11 0) ∷ ‵ (froom (ty K-Candidate) l10 0) ∷ ‵ (froom (tyInt w32) l9 0) ∷ ‵ (froom (ty K-StateWords) l8 0) ∷ ‵ (froom (ty K-SettingsWords) l7 0) ∷ ‵ (fat fullShare (tyRef (named 4) mut (pointee (row-of K-AnswerWords .written))) l6 0 (vptr (a6 .block) (a6 .offset))) ∷ ‵ (froom (tyInt w64) l5 0) ∷ ‵ (fat fullShare (tyRef (named 3) mut (pointee (row-of K-Watch .written))) l4 0 (vptr (a4 .block) (a4 .offset))) ∷ ‵ (froom (sliceTy (tyRef (named 2) mut (pointee (row-of K-MasterWords .written)))) l3 0) ∷ ‵ (fat fullShare (tyRef (named 1) mut (pointee (row-of K-Servo .written))) l2 0 (vptr (a2 .block) (a2 .offset))) ∷ ‵ (fat fullShare (tyRef (named 0) mut (pointee (row-of K-UnitWords .written))) l1 0 (vptr (a1 .block) (a1 .offset))) ∷ ‵ (froom tyUnit l0 0) ∷ []) (runs C Λ En mir′.t-23 (atRet En Post))
+      from-23 : (good : Holds (not (not (eqb (length h3) 5)))) (g-6 : Fits K-SettingsWords (h1 .settings)) (g-8 : Fits K-StateWords (h1 .state)) (p-9 : ℕ) (e-10 : p-9 ≡ intervalOf ((h1 .settings) .announce)) (is-11 : Fits K-u32 p-9) (g-13 : Fits K-MasterWords (getD h3 0 freshMaster)) (p-14 : (of K-Candidate)) (e-15 : p-14 ≡ candidateOf h5 p-9 (recordIn (getD h3 0 freshMaster))) (is-16 : Fits K-Candidate p-14) (g-18 : Fits K-MasterWords (getD h3 1 freshMaster)) (p-19 : (of K-Candidate)) (e-20 : p-19 ≡ candidateOf h5 p-9 (recordIn (getD h3 1 freshMaster))) (is-21 : Fits K-Candidate p-19) (g-23 : Fits K-MasterWords (getD h3 2 freshMaster)) (p-24 : (of K-Candidate)) (e-25 : p-24 ≡ candidateOf h5 p-9 (recordIn (getD h3 2 freshMaster))) (is-26 : Fits K-Candidate p-24) (g-28 : Fits K-MasterWords (getD h3 3 freshMaster)) (p-29 : (of K-Candidate)) (e-30 : p-29 ≡ candidateOf h5 p-9 (recordIn (getD h3 3 freshMaster))) (is-31 : Fits K-Candidate p-29) (g-33 : Fits K-MasterWords (getD h3 4 freshMaster)) (p-34 : (of K-Candidate)) (e-35 : p-34 ≡ candidateOf h5 p-9 (recordIn (getD h3 4 freshMaster))) (is-36 : Fits K-Candidate p-34) (p-37 : (of K-Held)) (e-38 : p-37 ≡ timedOf (h1 .state) h5 (bestOf p-14 p-19 p-24 p-29 p-34)) (is-39 : Fits K-Held p-37) → Sq W (‵ (slice K-MasterWords a3 (length h3) h3) ∷ ‵ (lent K-UnitWords a1 h1) ∷ ‵ (lent K-AnswerWords a6 h6) ∷ ‵ (lent K-Watch a4 h4) ∷ ‵ (lent K-Servo a2 h2) ∷ ‵ (ftrue) ∷ ‵ ((row-of K-u64) .own h5 ((K-u64 .val h5) ∷ [])) ∷ leave-all ∷ ‵ (froom (tyRef erased mut (pointee (row-of K-AnswerWords .written))) l29 0) ∷ ‵ (froom (tyRef erased mut (pointee (row-of K-Watch .written))) l28 0) ∷ ‵ (froom (tyRef erased mut (pointee (row-of K-Servo .written))) l27 0) ∷ ‵ (froom (tyRef erased mut (pointee (row-of K-UnitWords .written))) l26 0) ∷ ‵ (froom tyUnit l25 0) ∷ ‵ (froom tyPtr l24 0) ∷ ‵ (froom tyPtr l23 0) ∷ ‵ (froom tyPtr l22 0) ∷ ‵ (froom tyPtr l21 0) ∷ ‵ (froom (ty K-MasterWords) l20 0) ∷ ‵ (froom tyPtr l19 0) ∷ ‵ (froom (ty K-AnswerWords) l18 0) ∷ ‵ (froom tyBool l17 0) ∷ ‵ (froom (tyInt w64) l16 0) ∷ ‵ (fat fullShare (ty K-Held) l15 0 (K-Held .val p-37)) ∷ ‵ (froom (ty K-Candidate) l14 0) ∷ ‵ (froom (ty K-Candidate) l13 0) ∷ ‵ (froom (ty K-Candidate) l12 0) ∷ ‵ (froom (ty K-Candidate) l11 0) ∷ ‵ (froom (ty K-Candidate) l10 0) ∷ ‵ (froom (tyInt w32) l9 0) ∷ ‵ (froom (ty K-StateWords) l8 0) ∷ ‵ (froom (ty K-SettingsWords) l7 0) ∷ ‵ (fat fullShare (tyRef (named 4) mut (pointee (row-of K-AnswerWords .written))) l6 0 (vptr (a6 .block) (a6 .offset))) ∷ ‵ (froom (tyInt w64) l5 0) ∷ ‵ (fat fullShare (tyRef (named 3) mut (pointee (row-of K-Watch .written))) l4 0 (vptr (a4 .block) (a4 .offset))) ∷ ‵ (froom (sliceTy (tyRef (named 2) mut (pointee (row-of K-MasterWords .written)))) l3 0) ∷ ‵ (fat fullShare (tyRef (named 1) mut (pointee (row-of K-Servo .written))) l2 0 (vptr (a2 .block) (a2 .offset))) ∷ ‵ (fat fullShare (tyRef (named 0) mut (pointee (row-of K-UnitWords .written))) l1 0 (vptr (a1 .block) (a1 .offset))) ∷ ‵ (froom tyUnit l0 0) ∷ []) (runs C Λ En mir′.t-23 (atRet En Post))
       from-23 good g-6 g-8 p-9 e-10 is-11 g-13 p-14 e-15 is-16 g-18 p-19 e-20 is-21 g-23 p-24 e-25 is-26 g-28 p-29 e-30 is-31 g-33 p-34 e-35 is-36 p-37 e-38 is-39 =
           assigns ! (addr ! (from ! (hop ! (look ! 36 refl) (stop !)))) (from ! (stop !)) (init ! 11 refl (tt, tt)) $
           assigns ! (addr ! (from ! (hop ! (look ! 35 refl) (stop !)))) (from ! (stop !)) (init ! 10 refl (tt, tt)) $
@@ -89,45 +89,45 @@ module _ {M : Type 1} (𝓤 : URA M) (H : Heap 𝓤) (A : Atoms 𝓤) (W : Given
           land ! (from ! (stop !)) (init ! 12 refl (tt, tt)) $
           forget ! 36 refl $ forget ! 35 refl $ forget ! 33 refl $ forget ! 31 refl $ forget ! 22 refl $ forget ! 11 refl $ forget ! 10 refl $ forget ! 9 refl $ forget ! 8 refl $ forget ! 12 refl $ from-28 good g-6 g-8 p-9 e-10 is-11 g-13 p-14 e-15 is-16 g-18 p-19 e-20 is-21 g-23 p-24 e-25 is-26 g-28 p-29 e-30 is-31 g-33 p-34 e-35 is-36 p-37 e-38 is-39 (ws-53 .0) (ws-53 .1 .0) (ws-53 .1 .1 .0) (ws-53 .1 .1 .1 .1 .0) p-52 e-54 is-55)))))))))))))
 
-      from-21 : (good : Holds (not (not (eqb (length h3) 5)))) (g-6 : Fits K-SettingsWords (h1 .settings)) (g-8 : Fits K-StateWords (h1 .state)) (p-9 : ℕ) (e-10 : p-9 ≡ intervalOf ((h1 .settings) .announce)) (is-11 : Fits K-u32 p-9) (g-13 : Fits K-MasterWords (getD h3 0 noMaster)) (p-14 : (of K-Candidate)) (e-15 : p-14 ≡ candidateOf h5 p-9 (recordIn (getD h3 0 noMaster))) (is-16 : Fits K-Candidate p-14) (g-18 : Fits K-MasterWords (getD h3 1 noMaster)) (p-19 : (of K-Candidate)) (e-20 : p-19 ≡ candidateOf h5 p-9 (recordIn (getD h3 1 noMaster))) (is-21 : Fits K-Candidate p-19) (g-23 : Fits K-MasterWords (getD h3 2 noMaster)) (p-24 : (of K-Candidate)) (e-25 : p-24 ≡ candidateOf h5 p-9 (recordIn (getD h3 2 noMaster))) (is-26 : Fits K-Candidate p-24) (g-28 : Fits K-MasterWords (getD h3 3 noMaster)) (p-29 : (of K-Candidate)) (e-30 : p-29 ≡ candidateOf h5 p-9 (recordIn (getD h3 3 noMaster))) (is-31 : Fits K-Candidate p-29) (g-33 : Fits K-MasterWords (getD h3 4 noMaster)) → Sq W (‵ (slice K-MasterWords a3 (length h3) h3) ∷ ‵ (lent K-UnitWords a1 h1) ∷ ‵ (lent K-AnswerWords a6 h6) ∷ ‵ (lent K-Watch a4 h4) ∷ ‵ (lent K-Servo a2 h2) ∷ ‵ (ftrue) ∷ ‵ ((row-of K-u64) .own h5 ((K-u64 .val h5) ∷ [])) ∷ leave-all ∷ ‵ (froom (tyRef erased mut (pointee (row-of K-AnswerWords .written))) l29 0) ∷ ‵ (froom (tyRef erased mut (pointee (row-of K-Watch .written))) l28 0) ∷ ‵ (froom (tyRef erased mut (pointee (row-of K-Servo .written))) l27 0) ∷ ‵ (froom (tyRef erased mut (pointee (row-of K-UnitWords .written))) l26 0) ∷ ‵ (froom tyUnit l25 0) ∷ ‵ (froom tyPtr l24 0) ∷ ‵ (froom tyPtr l23 0) ∷ ‵ (froom tyPtr l22 0) ∷ ‵ (froom tyPtr l21 0) ∷ ‵ (fat fullShare (ty K-MasterWords) l20 0 (K-MasterWords .val (getD h3 4 noMaster))) ∷ ‵ (froom tyPtr l19 0) ∷ ‵ (froom (ty K-AnswerWords) l18 0) ∷ ‵ (froom tyBool l17 0) ∷ ‵ (froom (tyInt w64) l16 0) ∷ ‵ (froom (ty K-Held) l15 0) ∷ ‵ (froom (ty K-Candidate) l14 0) ∷ ‵ (fat fullShare (ty K-Candidate) l13 0 (K-Candidate .val p-29)) ∷ ‵ (fat fullShare (ty K-Candidate) l12 0 (K-Candidate .val p-24)) ∷ ‵ (fat fullShare (ty K-Candidate) l11 0 (K-Candidate .val p-19)) ∷ ‵ (fat fullShare (ty K-Candidate) l10 0 (K-Candidate .val p-14)) ∷ ‵ (fat fullShare (tyInt w32) l9 0 (K-u32 .val p-9)) ∷ ‵ (fat fullShare (ty K-StateWords) l8 0 (K-StateWords .val (h1 .state))) ∷ ‵ (froom (ty K-SettingsWords) l7 0) ∷ ‵ (fat fullShare (tyRef (named 4) mut (pointee (row-of K-AnswerWords .written))) l6 0 (vptr (a6 .block) (a6 .offset))) ∷ ‵ (fat fullShare (tyInt w64) l5 0 (K-u64 .val h5)) ∷ ‵ (fat fullShare (tyRef (named 3) mut (pointee (row-of K-Watch .written))) l4 0 (vptr (a4 .block) (a4 .offset))) ∷ ‵ (froom (sliceTy (tyRef (named 2) mut (pointee (row-of K-MasterWords .written)))) l3 0) ∷ ‵ (fat fullShare (tyRef (named 1) mut (pointee (row-of K-Servo .written))) l2 0 (vptr (a2 .block) (a2 .offset))) ∷ ‵ (fat fullShare (tyRef (named 0) mut (pointee (row-of K-UnitWords .written))) l1 0 (vptr (a1 .block) (a1 .offset))) ∷ ‵ (froom tyUnit l0 0) ∷ []) (runs C Λ En mir′.t-21 (atRet En Post))
+      from-21 : (good : Holds (not (not (eqb (length h3) 5)))) (g-6 : Fits K-SettingsWords (h1 .settings)) (g-8 : Fits K-StateWords (h1 .state)) (p-9 : ℕ) (e-10 : p-9 ≡ intervalOf ((h1 .settings) .announce)) (is-11 : Fits K-u32 p-9) (g-13 : Fits K-MasterWords (getD h3 0 freshMaster)) (p-14 : (of K-Candidate)) (e-15 : p-14 ≡ candidateOf h5 p-9 (recordIn (getD h3 0 freshMaster))) (is-16 : Fits K-Candidate p-14) (g-18 : Fits K-MasterWords (getD h3 1 freshMaster)) (p-19 : (of K-Candidate)) (e-20 : p-19 ≡ candidateOf h5 p-9 (recordIn (getD h3 1 freshMaster))) (is-21 : Fits K-Candidate p-19) (g-23 : Fits K-MasterWords (getD h3 2 freshMaster)) (p-24 : (of K-Candidate)) (e-25 : p-24 ≡ candidateOf h5 p-9 (recordIn (getD h3 2 freshMaster))) (is-26 : Fits K-Candidate p-24) (g-28 : Fits K-MasterWords (getD h3 3 freshMaster)) (p-29 : (of K-Candidate)) (e-30 : p-29 ≡ candidateOf h5 p-9 (recordIn (getD h3 3 freshMaster))) (is-31 : Fits K-Candidate p-29) (g-33 : Fits K-MasterWords (getD h3 4 freshMaster)) → Sq W (‵ (slice K-MasterWords a3 (length h3) h3) ∷ ‵ (lent K-UnitWords a1 h1) ∷ ‵ (lent K-AnswerWords a6 h6) ∷ ‵ (lent K-Watch a4 h4) ∷ ‵ (lent K-Servo a2 h2) ∷ ‵ (ftrue) ∷ ‵ ((row-of K-u64) .own h5 ((K-u64 .val h5) ∷ [])) ∷ leave-all ∷ ‵ (froom (tyRef erased mut (pointee (row-of K-AnswerWords .written))) l29 0) ∷ ‵ (froom (tyRef erased mut (pointee (row-of K-Watch .written))) l28 0) ∷ ‵ (froom (tyRef erased mut (pointee (row-of K-Servo .written))) l27 0) ∷ ‵ (froom (tyRef erased mut (pointee (row-of K-UnitWords .written))) l26 0) ∷ ‵ (froom tyUnit l25 0) ∷ ‵ (froom tyPtr l24 0) ∷ ‵ (froom tyPtr l23 0) ∷ ‵ (froom tyPtr l22 0) ∷ ‵ (froom tyPtr l21 0) ∷ ‵ (fat fullShare (ty K-MasterWords) l20 0 (K-MasterWords .val (getD h3 4 freshMaster))) ∷ ‵ (froom tyPtr l19 0) ∷ ‵ (froom (ty K-AnswerWords) l18 0) ∷ ‵ (froom tyBool l17 0) ∷ ‵ (froom (tyInt w64) l16 0) ∷ ‵ (froom (ty K-Held) l15 0) ∷ ‵ (froom (ty K-Candidate) l14 0) ∷ ‵ (fat fullShare (ty K-Candidate) l13 0 (K-Candidate .val p-29)) ∷ ‵ (fat fullShare (ty K-Candidate) l12 0 (K-Candidate .val p-24)) ∷ ‵ (fat fullShare (ty K-Candidate) l11 0 (K-Candidate .val p-19)) ∷ ‵ (fat fullShare (ty K-Candidate) l10 0 (K-Candidate .val p-14)) ∷ ‵ (fat fullShare (tyInt w32) l9 0 (K-u32 .val p-9)) ∷ ‵ (fat fullShare (ty K-StateWords) l8 0 (K-StateWords .val (h1 .state))) ∷ ‵ (froom (ty K-SettingsWords) l7 0) ∷ ‵ (fat fullShare (tyRef (named 4) mut (pointee (row-of K-AnswerWords .written))) l6 0 (vptr (a6 .block) (a6 .offset))) ∷ ‵ (fat fullShare (tyInt w64) l5 0 (K-u64 .val h5)) ∷ ‵ (fat fullShare (tyRef (named 3) mut (pointee (row-of K-Watch .written))) l4 0 (vptr (a4 .block) (a4 .offset))) ∷ ‵ (froom (sliceTy (tyRef (named 2) mut (pointee (row-of K-MasterWords .written)))) l3 0) ∷ ‵ (fat fullShare (tyRef (named 1) mut (pointee (row-of K-Servo .written))) l2 0 (vptr (a2 .block) (a2 .offset))) ∷ ‵ (fat fullShare (tyRef (named 0) mut (pointee (row-of K-UnitWords .written))) l1 0 (vptr (a1 .block) (a1 .offset))) ∷ ‵ (froom tyUnit l0 0) ∷ []) (runs C Λ En mir′.t-21 (atRet En Post))
       from-21 good g-6 g-8 p-9 e-10 is-11 g-13 p-14 e-15 is-16 g-18 p-19 e-20 is-21 g-23 p-24 e-25 is-26 g-28 p-29 e-30 is-31 g-33 =
           calls-value ! fm known-candidate (by-candidate 𝓤 H A W at-mem run g-33 g5 is-11) (and-then ! (load ! (from ! (stop !)) (look ! 18 refl)) (and-then ! (load ! (from ! (stop !)) (look ! 33 refl)) (and-then ! (load ! (from ! (stop !)) (look ! 29 refl)) (no-more !)))) (λ p-34 _ e-35 is-36. land ! (from ! (stop !)) (init ! 23 refl (typed W is-36)) $
           calls-value ! fm known-pass (by-pass 𝓤 H A W at-mem run g-8 g5 is-16 is-21 is-26 is-31 is-36) (and-then ! (load ! (from ! (stop !)) (look ! 30 refl)) (and-then ! (load ! (from ! (stop !)) (look ! 33 refl)) (and-then ! (load ! (from ! (stop !)) (look ! 28 refl)) (and-then ! (load ! (from ! (stop !)) (look ! 27 refl)) (and-then ! (load ! (from ! (stop !)) (look ! 26 refl)) (and-then ! (load ! (from ! (stop !)) (look ! 25 refl)) (and-then ! (load ! (from ! (stop !)) (look ! 24 refl)) (no-more !)))))))) (λ p-37 _ e-38 is-39. land ! (from ! (stop !)) (init ! 22 refl (typed W is-39)) $
           forget ! 32 refl $ forget ! 29 refl $ forget ! 28 refl $ forget ! 17 refl $ forget ! 27 refl $ forget ! 26 refl $ forget ! 25 refl $ forget ! 24 refl $ forget ! 23 refl $ from-23 good g-6 g-8 p-9 e-10 is-11 g-13 p-14 e-15 is-16 g-18 p-19 e-20 is-21 g-23 p-24 e-25 is-26 g-28 p-29 e-30 is-31 g-33 p-34 e-35 is-36 p-37 e-38 is-39))
 
-      from-18 : (good : Holds (not (not (eqb (length h3) 5)))) (g-6 : Fits K-SettingsWords (h1 .settings)) (g-8 : Fits K-StateWords (h1 .state)) (p-9 : ℕ) (e-10 : p-9 ≡ intervalOf ((h1 .settings) .announce)) (is-11 : Fits K-u32 p-9) (g-13 : Fits K-MasterWords (getD h3 0 noMaster)) (p-14 : (of K-Candidate)) (e-15 : p-14 ≡ candidateOf h5 p-9 (recordIn (getD h3 0 noMaster))) (is-16 : Fits K-Candidate p-14) (g-18 : Fits K-MasterWords (getD h3 1 noMaster)) (p-19 : (of K-Candidate)) (e-20 : p-19 ≡ candidateOf h5 p-9 (recordIn (getD h3 1 noMaster))) (is-21 : Fits K-Candidate p-19) (g-23 : Fits K-MasterWords (getD h3 2 noMaster)) (p-24 : (of K-Candidate)) (e-25 : p-24 ≡ candidateOf h5 p-9 (recordIn (getD h3 2 noMaster))) (is-26 : Fits K-Candidate p-24) (g-28 : Fits K-MasterWords (getD h3 3 noMaster)) → Sq W (‵ (slice K-MasterWords a3 (length h3) h3) ∷ ‵ (lent K-UnitWords a1 h1) ∷ ‵ (lent K-AnswerWords a6 h6) ∷ ‵ (lent K-Watch a4 h4) ∷ ‵ (lent K-Servo a2 h2) ∷ ‵ (ftrue) ∷ ‵ ((row-of K-u64) .own h5 ((K-u64 .val h5) ∷ [])) ∷ leave-all ∷ ‵ (froom (tyRef erased mut (pointee (row-of K-AnswerWords .written))) l29 0) ∷ ‵ (froom (tyRef erased mut (pointee (row-of K-Watch .written))) l28 0) ∷ ‵ (froom (tyRef erased mut (pointee (row-of K-Servo .written))) l27 0) ∷ ‵ (froom (tyRef erased mut (pointee (row-of K-UnitWords .written))) l26 0) ∷ ‵ (froom tyUnit l25 0) ∷ ‵ (froom tyPtr l24 0) ∷ ‵ (froom tyPtr l23 0) ∷ ‵ (froom tyPtr l22 0) ∷ ‵ (froom tyPtr l21 0) ∷ ‵ (fat fullShare (ty K-MasterWords) l20 0 (K-MasterWords .val (getD h3 3 noMaster))) ∷ ‵ (froom tyPtr l19 0) ∷ ‵ (froom (ty K-AnswerWords) l18 0) ∷ ‵ (froom tyBool l17 0) ∷ ‵ (froom (tyInt w64) l16 0) ∷ ‵ (froom (ty K-Held) l15 0) ∷ ‵ (froom (ty K-Candidate) l14 0) ∷ ‵ (froom (ty K-Candidate) l13 0) ∷ ‵ (fat fullShare (ty K-Candidate) l12 0 (K-Candidate .val p-24)) ∷ ‵ (fat fullShare (ty K-Candidate) l11 0 (K-Candidate .val p-19)) ∷ ‵ (fat fullShare (ty K-Candidate) l10 0 (K-Candidate .val p-14)) ∷ ‵ (fat fullShare (tyInt w32) l9 0 (K-u32 .val p-9)) ∷ ‵ (fat fullShare (ty K-StateWords) l8 0 (K-StateWords .val (h1 .state))) ∷ ‵ (froom (ty K-SettingsWords) l7 0) ∷ ‵ (fat fullShare (tyRef (named 4) mut (pointee (row-of K-AnswerWords .written))) l6 0 (vptr (a6 .block) (a6 .offset))) ∷ ‵ (fat fullShare (tyInt w64) l5 0 (K-u64 .val h5)) ∷ ‵ (fat fullShare (tyRef (named 3) mut (pointee (row-of K-Watch .written))) l4 0 (vptr (a4 .block) (a4 .offset))) ∷ ‵ (fat fullShare (sliceTy (tyRef (named 2) mut (pointee (row-of K-MasterWords .written)))) l3 0 (sliceVal (a3 .block, a3 .offset) (length h3))) ∷ ‵ (fat fullShare (tyRef (named 1) mut (pointee (row-of K-Servo .written))) l2 0 (vptr (a2 .block) (a2 .offset))) ∷ ‵ (fat fullShare (tyRef (named 0) mut (pointee (row-of K-UnitWords .written))) l1 0 (vptr (a1 .block) (a1 .offset))) ∷ ‵ (froom tyUnit l0 0) ∷ []) (runs C Λ En mir′.t-18 (atRet En Post))
+      from-18 : (good : Holds (not (not (eqb (length h3) 5)))) (g-6 : Fits K-SettingsWords (h1 .settings)) (g-8 : Fits K-StateWords (h1 .state)) (p-9 : ℕ) (e-10 : p-9 ≡ intervalOf ((h1 .settings) .announce)) (is-11 : Fits K-u32 p-9) (g-13 : Fits K-MasterWords (getD h3 0 freshMaster)) (p-14 : (of K-Candidate)) (e-15 : p-14 ≡ candidateOf h5 p-9 (recordIn (getD h3 0 freshMaster))) (is-16 : Fits K-Candidate p-14) (g-18 : Fits K-MasterWords (getD h3 1 freshMaster)) (p-19 : (of K-Candidate)) (e-20 : p-19 ≡ candidateOf h5 p-9 (recordIn (getD h3 1 freshMaster))) (is-21 : Fits K-Candidate p-19) (g-23 : Fits K-MasterWords (getD h3 2 freshMaster)) (p-24 : (of K-Candidate)) (e-25 : p-24 ≡ candidateOf h5 p-9 (recordIn (getD h3 2 freshMaster))) (is-26 : Fits K-Candidate p-24) (g-28 : Fits K-MasterWords (getD h3 3 freshMaster)) → Sq W (‵ (slice K-MasterWords a3 (length h3) h3) ∷ ‵ (lent K-UnitWords a1 h1) ∷ ‵ (lent K-AnswerWords a6 h6) ∷ ‵ (lent K-Watch a4 h4) ∷ ‵ (lent K-Servo a2 h2) ∷ ‵ (ftrue) ∷ ‵ ((row-of K-u64) .own h5 ((K-u64 .val h5) ∷ [])) ∷ leave-all ∷ ‵ (froom (tyRef erased mut (pointee (row-of K-AnswerWords .written))) l29 0) ∷ ‵ (froom (tyRef erased mut (pointee (row-of K-Watch .written))) l28 0) ∷ ‵ (froom (tyRef erased mut (pointee (row-of K-Servo .written))) l27 0) ∷ ‵ (froom (tyRef erased mut (pointee (row-of K-UnitWords .written))) l26 0) ∷ ‵ (froom tyUnit l25 0) ∷ ‵ (froom tyPtr l24 0) ∷ ‵ (froom tyPtr l23 0) ∷ ‵ (froom tyPtr l22 0) ∷ ‵ (froom tyPtr l21 0) ∷ ‵ (fat fullShare (ty K-MasterWords) l20 0 (K-MasterWords .val (getD h3 3 freshMaster))) ∷ ‵ (froom tyPtr l19 0) ∷ ‵ (froom (ty K-AnswerWords) l18 0) ∷ ‵ (froom tyBool l17 0) ∷ ‵ (froom (tyInt w64) l16 0) ∷ ‵ (froom (ty K-Held) l15 0) ∷ ‵ (froom (ty K-Candidate) l14 0) ∷ ‵ (froom (ty K-Candidate) l13 0) ∷ ‵ (fat fullShare (ty K-Candidate) l12 0 (K-Candidate .val p-24)) ∷ ‵ (fat fullShare (ty K-Candidate) l11 0 (K-Candidate .val p-19)) ∷ ‵ (fat fullShare (ty K-Candidate) l10 0 (K-Candidate .val p-14)) ∷ ‵ (fat fullShare (tyInt w32) l9 0 (K-u32 .val p-9)) ∷ ‵ (fat fullShare (ty K-StateWords) l8 0 (K-StateWords .val (h1 .state))) ∷ ‵ (froom (ty K-SettingsWords) l7 0) ∷ ‵ (fat fullShare (tyRef (named 4) mut (pointee (row-of K-AnswerWords .written))) l6 0 (vptr (a6 .block) (a6 .offset))) ∷ ‵ (fat fullShare (tyInt w64) l5 0 (K-u64 .val h5)) ∷ ‵ (fat fullShare (tyRef (named 3) mut (pointee (row-of K-Watch .written))) l4 0 (vptr (a4 .block) (a4 .offset))) ∷ ‵ (fat fullShare (sliceTy (tyRef (named 2) mut (pointee (row-of K-MasterWords .written)))) l3 0 (sliceVal (a3 .block, a3 .offset) (length h3))) ∷ ‵ (fat fullShare (tyRef (named 1) mut (pointee (row-of K-Servo .written))) l2 0 (vptr (a2 .block) (a2 .offset))) ∷ ‵ (fat fullShare (tyRef (named 0) mut (pointee (row-of K-UnitWords .written))) l1 0 (vptr (a1 .block) (a1 .offset))) ∷ ‵ (froom tyUnit l0 0) ∷ []) (runs C Λ En mir′.t-18 (atRet En Post))
       from-18 good g-6 g-8 p-9 e-10 is-11 g-13 p-14 e-15 is-16 g-18 p-19 e-20 is-21 g-23 p-24 e-25 is-26 g-28 =
           calls-value ! fm known-candidate (by-candidate 𝓤 H A W at-mem run g-28 g5 is-11) (and-then ! (load ! (from ! (stop !)) (look ! 18 refl)) (and-then ! (load ! (from ! (stop !)) (look ! 33 refl)) (and-then ! (load ! (from ! (stop !)) (look ! 29 refl)) (no-more !)))) (λ p-29 _ e-30 is-31. land ! (from ! (stop !)) (init ! 24 refl (typed W is-31)) $
           assigns ! (bin ! (load ! (from ! (fld ! refl (stop !))) (look-in ! 34 (sub ! 0 refl (whole !)))) (lit ! tt) tt) (from ! (stop !)) (init ! 13 refl (tt, tt)) $ rewrite ! 13 (λ (p : ℕ). ‵ (fat fullShare tyPtr l24 0 (vptr (a3 .block) p))) (sym (place-is 96 (a3 .offset) 4)) refl $
-          opens-row ! tt K-MasterWords a3 (length h3) h3 4 noMaster (subst (λ (m : ℕ). 4 < m) (sym (is-N good)) (lit< tt)) (λ g-32. assigns ! (of-opd ! (load ! (from ! (hop ! (look ! 14 refl) (stop !))) (look ! 0 refl))) (from ! (stop !)) (store ! 18 refl (typed W g-32)) $ shuts-row ! tt a3 (length h3) h3 4 noMaster (subst (λ (m : ℕ). 4 < m) (sym (is-N good)) (lit< tt)) g-32 $
+          opens-row ! tt K-MasterWords a3 (length h3) h3 4 freshMaster (subst (λ (m : ℕ). 4 < m) (sym (is-N good)) (lit< tt)) (λ g-32. assigns ! (of-opd ! (load ! (from ! (hop ! (look ! 14 refl) (stop !))) (look ! 0 refl))) (from ! (stop !)) (store ! 18 refl (typed W g-32)) $ shuts-row ! tt a3 (length h3) h3 4 freshMaster (subst (λ (m : ℕ). 4 < m) (sym (is-N good)) (lit< tt)) g-32 $
           forget ! 34 refl $ forget ! 13 refl $ from-21 good g-6 g-8 p-9 e-10 is-11 g-13 p-14 e-15 is-16 g-18 p-19 e-20 is-21 g-23 p-24 e-25 is-26 g-28 p-29 e-30 is-31 g-32))
 
-      from-15 : (good : Holds (not (not (eqb (length h3) 5)))) (g-6 : Fits K-SettingsWords (h1 .settings)) (g-8 : Fits K-StateWords (h1 .state)) (p-9 : ℕ) (e-10 : p-9 ≡ intervalOf ((h1 .settings) .announce)) (is-11 : Fits K-u32 p-9) (g-13 : Fits K-MasterWords (getD h3 0 noMaster)) (p-14 : (of K-Candidate)) (e-15 : p-14 ≡ candidateOf h5 p-9 (recordIn (getD h3 0 noMaster))) (is-16 : Fits K-Candidate p-14) (g-18 : Fits K-MasterWords (getD h3 1 noMaster)) (p-19 : (of K-Candidate)) (e-20 : p-19 ≡ candidateOf h5 p-9 (recordIn (getD h3 1 noMaster))) (is-21 : Fits K-Candidate p-19) (g-23 : Fits K-MasterWords (getD h3 2 noMaster)) → Sq W (‵ (slice K-MasterWords a3 (length h3) h3) ∷ ‵ (lent K-UnitWords a1 h1) ∷ ‵ (lent K-AnswerWords a6 h6) ∷ ‵ (lent K-Watch a4 h4) ∷ ‵ (lent K-Servo a2 h2) ∷ ‵ (ftrue) ∷ ‵ ((row-of K-u64) .own h5 ((K-u64 .val h5) ∷ [])) ∷ leave-all ∷ ‵ (froom (tyRef erased mut (pointee (row-of K-AnswerWords .written))) l29 0) ∷ ‵ (froom (tyRef erased mut (pointee (row-of K-Watch .written))) l28 0) ∷ ‵ (froom (tyRef erased mut (pointee (row-of K-Servo .written))) l27 0) ∷ ‵ (froom (tyRef erased mut (pointee (row-of K-UnitWords .written))) l26 0) ∷ ‵ (froom tyUnit l25 0) ∷ ‵ (froom tyPtr l24 0) ∷ ‵ (froom tyPtr l23 0) ∷ ‵ (froom tyPtr l22 0) ∷ ‵ (froom tyPtr l21 0) ∷ ‵ (fat fullShare (ty K-MasterWords) l20 0 (K-MasterWords .val (getD h3 2 noMaster))) ∷ ‵ (froom tyPtr l19 0) ∷ ‵ (froom (ty K-AnswerWords) l18 0) ∷ ‵ (froom tyBool l17 0) ∷ ‵ (froom (tyInt w64) l16 0) ∷ ‵ (froom (ty K-Held) l15 0) ∷ ‵ (froom (ty K-Candidate) l14 0) ∷ ‵ (froom (ty K-Candidate) l13 0) ∷ ‵ (froom (ty K-Candidate) l12 0) ∷ ‵ (fat fullShare (ty K-Candidate) l11 0 (K-Candidate .val p-19)) ∷ ‵ (fat fullShare (ty K-Candidate) l10 0 (K-Candidate .val p-14)) ∷ ‵ (fat fullShare (tyInt w32) l9 0 (K-u32 .val p-9)) ∷ ‵ (fat fullShare (ty K-StateWords) l8 0 (K-StateWords .val (h1 .state))) ∷ ‵ (froom (ty K-SettingsWords) l7 0) ∷ ‵ (fat fullShare (tyRef (named 4) mut (pointee (row-of K-AnswerWords .written))) l6 0 (vptr (a6 .block) (a6 .offset))) ∷ ‵ (fat fullShare (tyInt w64) l5 0 (K-u64 .val h5)) ∷ ‵ (fat fullShare (tyRef (named 3) mut (pointee (row-of K-Watch .written))) l4 0 (vptr (a4 .block) (a4 .offset))) ∷ ‵ (fat fullShare (sliceTy (tyRef (named 2) mut (pointee (row-of K-MasterWords .written)))) l3 0 (sliceVal (a3 .block, a3 .offset) (length h3))) ∷ ‵ (fat fullShare (tyRef (named 1) mut (pointee (row-of K-Servo .written))) l2 0 (vptr (a2 .block) (a2 .offset))) ∷ ‵ (fat fullShare (tyRef (named 0) mut (pointee (row-of K-UnitWords .written))) l1 0 (vptr (a1 .block) (a1 .offset))) ∷ ‵ (froom tyUnit l0 0) ∷ []) (runs C Λ En mir′.t-15 (atRet En Post))
+      from-15 : (good : Holds (not (not (eqb (length h3) 5)))) (g-6 : Fits K-SettingsWords (h1 .settings)) (g-8 : Fits K-StateWords (h1 .state)) (p-9 : ℕ) (e-10 : p-9 ≡ intervalOf ((h1 .settings) .announce)) (is-11 : Fits K-u32 p-9) (g-13 : Fits K-MasterWords (getD h3 0 freshMaster)) (p-14 : (of K-Candidate)) (e-15 : p-14 ≡ candidateOf h5 p-9 (recordIn (getD h3 0 freshMaster))) (is-16 : Fits K-Candidate p-14) (g-18 : Fits K-MasterWords (getD h3 1 freshMaster)) (p-19 : (of K-Candidate)) (e-20 : p-19 ≡ candidateOf h5 p-9 (recordIn (getD h3 1 freshMaster))) (is-21 : Fits K-Candidate p-19) (g-23 : Fits K-MasterWords (getD h3 2 freshMaster)) → Sq W (‵ (slice K-MasterWords a3 (length h3) h3) ∷ ‵ (lent K-UnitWords a1 h1) ∷ ‵ (lent K-AnswerWords a6 h6) ∷ ‵ (lent K-Watch a4 h4) ∷ ‵ (lent K-Servo a2 h2) ∷ ‵ (ftrue) ∷ ‵ ((row-of K-u64) .own h5 ((K-u64 .val h5) ∷ [])) ∷ leave-all ∷ ‵ (froom (tyRef erased mut (pointee (row-of K-AnswerWords .written))) l29 0) ∷ ‵ (froom (tyRef erased mut (pointee (row-of K-Watch .written))) l28 0) ∷ ‵ (froom (tyRef erased mut (pointee (row-of K-Servo .written))) l27 0) ∷ ‵ (froom (tyRef erased mut (pointee (row-of K-UnitWords .written))) l26 0) ∷ ‵ (froom tyUnit l25 0) ∷ ‵ (froom tyPtr l24 0) ∷ ‵ (froom tyPtr l23 0) ∷ ‵ (froom tyPtr l22 0) ∷ ‵ (froom tyPtr l21 0) ∷ ‵ (fat fullShare (ty K-MasterWords) l20 0 (K-MasterWords .val (getD h3 2 freshMaster))) ∷ ‵ (froom tyPtr l19 0) ∷ ‵ (froom (ty K-AnswerWords) l18 0) ∷ ‵ (froom tyBool l17 0) ∷ ‵ (froom (tyInt w64) l16 0) ∷ ‵ (froom (ty K-Held) l15 0) ∷ ‵ (froom (ty K-Candidate) l14 0) ∷ ‵ (froom (ty K-Candidate) l13 0) ∷ ‵ (froom (ty K-Candidate) l12 0) ∷ ‵ (fat fullShare (ty K-Candidate) l11 0 (K-Candidate .val p-19)) ∷ ‵ (fat fullShare (ty K-Candidate) l10 0 (K-Candidate .val p-14)) ∷ ‵ (fat fullShare (tyInt w32) l9 0 (K-u32 .val p-9)) ∷ ‵ (fat fullShare (ty K-StateWords) l8 0 (K-StateWords .val (h1 .state))) ∷ ‵ (froom (ty K-SettingsWords) l7 0) ∷ ‵ (fat fullShare (tyRef (named 4) mut (pointee (row-of K-AnswerWords .written))) l6 0 (vptr (a6 .block) (a6 .offset))) ∷ ‵ (fat fullShare (tyInt w64) l5 0 (K-u64 .val h5)) ∷ ‵ (fat fullShare (tyRef (named 3) mut (pointee (row-of K-Watch .written))) l4 0 (vptr (a4 .block) (a4 .offset))) ∷ ‵ (fat fullShare (sliceTy (tyRef (named 2) mut (pointee (row-of K-MasterWords .written)))) l3 0 (sliceVal (a3 .block, a3 .offset) (length h3))) ∷ ‵ (fat fullShare (tyRef (named 1) mut (pointee (row-of K-Servo .written))) l2 0 (vptr (a2 .block) (a2 .offset))) ∷ ‵ (fat fullShare (tyRef (named 0) mut (pointee (row-of K-UnitWords .written))) l1 0 (vptr (a1 .block) (a1 .offset))) ∷ ‵ (froom tyUnit l0 0) ∷ []) (runs C Λ En mir′.t-15 (atRet En Post))
       from-15 good g-6 g-8 p-9 e-10 is-11 g-13 p-14 e-15 is-16 g-18 p-19 e-20 is-21 g-23 =
           calls-value ! fm known-candidate (by-candidate 𝓤 H A W at-mem run g-23 g5 is-11) (and-then ! (load ! (from ! (stop !)) (look ! 18 refl)) (and-then ! (load ! (from ! (stop !)) (look ! 33 refl)) (and-then ! (load ! (from ! (stop !)) (look ! 29 refl)) (no-more !)))) (λ p-24 _ e-25 is-26. land ! (from ! (stop !)) (init ! 25 refl (typed W is-26)) $
           assigns ! (bin ! (load ! (from ! (fld ! refl (stop !))) (look-in ! 34 (sub ! 0 refl (whole !)))) (lit ! tt) tt) (from ! (stop !)) (init ! 14 refl (tt, tt)) $ rewrite ! 14 (λ (p : ℕ). ‵ (fat fullShare tyPtr l23 0 (vptr (a3 .block) p))) (sym (place-is 96 (a3 .offset) 3)) refl $
-          opens-row ! tt K-MasterWords a3 (length h3) h3 3 noMaster (subst (λ (m : ℕ). 3 < m) (sym (is-N good)) (lit< tt)) (λ g-27. assigns ! (of-opd ! (load ! (from ! (hop ! (look ! 15 refl) (stop !))) (look ! 0 refl))) (from ! (stop !)) (store ! 18 refl (typed W g-27)) $ shuts-row ! tt a3 (length h3) h3 3 noMaster (subst (λ (m : ℕ). 3 < m) (sym (is-N good)) (lit< tt)) g-27 $
+          opens-row ! tt K-MasterWords a3 (length h3) h3 3 freshMaster (subst (λ (m : ℕ). 3 < m) (sym (is-N good)) (lit< tt)) (λ g-27. assigns ! (of-opd ! (load ! (from ! (hop ! (look ! 15 refl) (stop !))) (look ! 0 refl))) (from ! (stop !)) (store ! 18 refl (typed W g-27)) $ shuts-row ! tt a3 (length h3) h3 3 freshMaster (subst (λ (m : ℕ). 3 < m) (sym (is-N good)) (lit< tt)) g-27 $
           forget ! 14 refl $ from-18 good g-6 g-8 p-9 e-10 is-11 g-13 p-14 e-15 is-16 g-18 p-19 e-20 is-21 g-23 p-24 e-25 is-26 g-27))
 
-      from-12 : (good : Holds (not (not (eqb (length h3) 5)))) (g-6 : Fits K-SettingsWords (h1 .settings)) (g-8 : Fits K-StateWords (h1 .state)) (p-9 : ℕ) (e-10 : p-9 ≡ intervalOf ((h1 .settings) .announce)) (is-11 : Fits K-u32 p-9) (g-13 : Fits K-MasterWords (getD h3 0 noMaster)) (p-14 : (of K-Candidate)) (e-15 : p-14 ≡ candidateOf h5 p-9 (recordIn (getD h3 0 noMaster))) (is-16 : Fits K-Candidate p-14) (g-18 : Fits K-MasterWords (getD h3 1 noMaster)) → Sq W (‵ (slice K-MasterWords a3 (length h3) h3) ∷ ‵ (lent K-UnitWords a1 h1) ∷ ‵ (lent K-AnswerWords a6 h6) ∷ ‵ (lent K-Watch a4 h4) ∷ ‵ (lent K-Servo a2 h2) ∷ ‵ (ftrue) ∷ ‵ ((row-of K-u64) .own h5 ((K-u64 .val h5) ∷ [])) ∷ leave-all ∷ ‵ (froom (tyRef erased mut (pointee (row-of K-AnswerWords .written))) l29 0) ∷ ‵ (froom (tyRef erased mut (pointee (row-of K-Watch .written))) l28 0) ∷ ‵ (froom (tyRef erased mut (pointee (row-of K-Servo .written))) l27 0) ∷ ‵ (froom (tyRef erased mut (pointee (row-of K-UnitWords .written))) l26 0) ∷ ‵ (froom tyUnit l25 0) ∷ ‵ (froom tyPtr l24 0) ∷ ‵ (froom tyPtr l23 0) ∷ ‵ (froom tyPtr l22 0) ∷ ‵ (froom tyPtr l21 0) ∷ ‵ (fat fullShare (ty K-MasterWords) l20 0 (K-MasterWords .val (getD h3 1 noMaster))) ∷ ‵ (froom tyPtr l19 0) ∷ ‵ (froom (ty K-AnswerWords) l18 0) ∷ ‵ (froom tyBool l17 0) ∷ ‵ (froom (tyInt w64) l16 0) ∷ ‵ (froom (ty K-Held) l15 0) ∷ ‵ (froom (ty K-Candidate) l14 0) ∷ ‵ (froom (ty K-Candidate) l13 0) ∷ ‵ (froom (ty K-Candidate) l12 0) ∷ ‵ (froom (ty K-Candidate) l11 0) ∷ ‵ (fat fullShare (ty K-Candidate) l10 0 (K-Candidate .val p-14)) ∷ ‵ (fat fullShare (tyInt w32) l9 0 (K-u32 .val p-9)) ∷ ‵ (fat fullShare (ty K-StateWords) l8 0 (K-StateWords .val (h1 .state))) ∷ ‵ (froom (ty K-SettingsWords) l7 0) ∷ ‵ (fat fullShare (tyRef (named 4) mut (pointee (row-of K-AnswerWords .written))) l6 0 (vptr (a6 .block) (a6 .offset))) ∷ ‵ (fat fullShare (tyInt w64) l5 0 (K-u64 .val h5)) ∷ ‵ (fat fullShare (tyRef (named 3) mut (pointee (row-of K-Watch .written))) l4 0 (vptr (a4 .block) (a4 .offset))) ∷ ‵ (fat fullShare (sliceTy (tyRef (named 2) mut (pointee (row-of K-MasterWords .written)))) l3 0 (sliceVal (a3 .block, a3 .offset) (length h3))) ∷ ‵ (fat fullShare (tyRef (named 1) mut (pointee (row-of K-Servo .written))) l2 0 (vptr (a2 .block) (a2 .offset))) ∷ ‵ (fat fullShare (tyRef (named 0) mut (pointee (row-of K-UnitWords .written))) l1 0 (vptr (a1 .block) (a1 .offset))) ∷ ‵ (froom tyUnit l0 0) ∷ []) (runs C Λ En mir′.t-12 (atRet En Post))
+      from-12 : (good : Holds (not (not (eqb (length h3) 5)))) (g-6 : Fits K-SettingsWords (h1 .settings)) (g-8 : Fits K-StateWords (h1 .state)) (p-9 : ℕ) (e-10 : p-9 ≡ intervalOf ((h1 .settings) .announce)) (is-11 : Fits K-u32 p-9) (g-13 : Fits K-MasterWords (getD h3 0 freshMaster)) (p-14 : (of K-Candidate)) (e-15 : p-14 ≡ candidateOf h5 p-9 (recordIn (getD h3 0 freshMaster))) (is-16 : Fits K-Candidate p-14) (g-18 : Fits K-MasterWords (getD h3 1 freshMaster)) → Sq W (‵ (slice K-MasterWords a3 (length h3) h3) ∷ ‵ (lent K-UnitWords a1 h1) ∷ ‵ (lent K-AnswerWords a6 h6) ∷ ‵ (lent K-Watch a4 h4) ∷ ‵ (lent K-Servo a2 h2) ∷ ‵ (ftrue) ∷ ‵ ((row-of K-u64) .own h5 ((K-u64 .val h5) ∷ [])) ∷ leave-all ∷ ‵ (froom (tyRef erased mut (pointee (row-of K-AnswerWords .written))) l29 0) ∷ ‵ (froom (tyRef erased mut (pointee (row-of K-Watch .written))) l28 0) ∷ ‵ (froom (tyRef erased mut (pointee (row-of K-Servo .written))) l27 0) ∷ ‵ (froom (tyRef erased mut (pointee (row-of K-UnitWords .written))) l26 0) ∷ ‵ (froom tyUnit l25 0) ∷ ‵ (froom tyPtr l24 0) ∷ ‵ (froom tyPtr l23 0) ∷ ‵ (froom tyPtr l22 0) ∷ ‵ (froom tyPtr l21 0) ∷ ‵ (fat fullShare (ty K-MasterWords) l20 0 (K-MasterWords .val (getD h3 1 freshMaster))) ∷ ‵ (froom tyPtr l19 0) ∷ ‵ (froom (ty K-AnswerWords) l18 0) ∷ ‵ (froom tyBool l17 0) ∷ ‵ (froom (tyInt w64) l16 0) ∷ ‵ (froom (ty K-Held) l15 0) ∷ ‵ (froom (ty K-Candidate) l14 0) ∷ ‵ (froom (ty K-Candidate) l13 0) ∷ ‵ (froom (ty K-Candidate) l12 0) ∷ ‵ (froom (ty K-Candidate) l11 0) ∷ ‵ (fat fullShare (ty K-Candidate) l10 0 (K-Candidate .val p-14)) ∷ ‵ (fat fullShare (tyInt w32) l9 0 (K-u32 .val p-9)) ∷ ‵ (fat fullShare (ty K-StateWords) l8 0 (K-StateWords .val (h1 .state))) ∷ ‵ (froom (ty K-SettingsWords) l7 0) ∷ ‵ (fat fullShare (tyRef (named 4) mut (pointee (row-of K-AnswerWords .written))) l6 0 (vptr (a6 .block) (a6 .offset))) ∷ ‵ (fat fullShare (tyInt w64) l5 0 (K-u64 .val h5)) ∷ ‵ (fat fullShare (tyRef (named 3) mut (pointee (row-of K-Watch .written))) l4 0 (vptr (a4 .block) (a4 .offset))) ∷ ‵ (fat fullShare (sliceTy (tyRef (named 2) mut (pointee (row-of K-MasterWords .written)))) l3 0 (sliceVal (a3 .block, a3 .offset) (length h3))) ∷ ‵ (fat fullShare (tyRef (named 1) mut (pointee (row-of K-Servo .written))) l2 0 (vptr (a2 .block) (a2 .offset))) ∷ ‵ (fat fullShare (tyRef (named 0) mut (pointee (row-of K-UnitWords .written))) l1 0 (vptr (a1 .block) (a1 .offset))) ∷ ‵ (froom tyUnit l0 0) ∷ []) (runs C Λ En mir′.t-12 (atRet En Post))
       from-12 good g-6 g-8 p-9 e-10 is-11 g-13 p-14 e-15 is-16 g-18 =
           calls-value ! fm known-candidate (by-candidate 𝓤 H A W at-mem run g-18 g5 is-11) (and-then ! (load ! (from ! (stop !)) (look ! 18 refl)) (and-then ! (load ! (from ! (stop !)) (look ! 33 refl)) (and-then ! (load ! (from ! (stop !)) (look ! 29 refl)) (no-more !)))) (λ p-19 _ e-20 is-21. land ! (from ! (stop !)) (init ! 26 refl (typed W is-21)) $
           assigns ! (bin ! (load ! (from ! (fld ! refl (stop !))) (look-in ! 34 (sub ! 0 refl (whole !)))) (lit ! tt) tt) (from ! (stop !)) (init ! 15 refl (tt, tt)) $ rewrite ! 15 (λ (p : ℕ). ‵ (fat fullShare tyPtr l22 0 (vptr (a3 .block) p))) (sym (place-is 96 (a3 .offset) 2)) refl $
-          opens-row ! tt K-MasterWords a3 (length h3) h3 2 noMaster (subst (λ (m : ℕ). 2 < m) (sym (is-N good)) (lit< tt)) (λ g-22. assigns ! (of-opd ! (load ! (from ! (hop ! (look ! 16 refl) (stop !))) (look ! 0 refl))) (from ! (stop !)) (store ! 18 refl (typed W g-22)) $ shuts-row ! tt a3 (length h3) h3 2 noMaster (subst (λ (m : ℕ). 2 < m) (sym (is-N good)) (lit< tt)) g-22 $
+          opens-row ! tt K-MasterWords a3 (length h3) h3 2 freshMaster (subst (λ (m : ℕ). 2 < m) (sym (is-N good)) (lit< tt)) (λ g-22. assigns ! (of-opd ! (load ! (from ! (hop ! (look ! 16 refl) (stop !))) (look ! 0 refl))) (from ! (stop !)) (store ! 18 refl (typed W g-22)) $ shuts-row ! tt a3 (length h3) h3 2 freshMaster (subst (λ (m : ℕ). 2 < m) (sym (is-N good)) (lit< tt)) g-22 $
           forget ! 15 refl $ from-15 good g-6 g-8 p-9 e-10 is-11 g-13 p-14 e-15 is-16 g-18 p-19 e-20 is-21 g-22))
 
-      from-9 : (good : Holds (not (not (eqb (length h3) 5)))) (g-6 : Fits K-SettingsWords (h1 .settings)) (g-8 : Fits K-StateWords (h1 .state)) (p-9 : ℕ) (e-10 : p-9 ≡ intervalOf ((h1 .settings) .announce)) (is-11 : Fits K-u32 p-9) (g-13 : Fits K-MasterWords (getD h3 0 noMaster)) → Sq W (‵ (slice K-MasterWords a3 (length h3) h3) ∷ ‵ (lent K-UnitWords a1 h1) ∷ ‵ (lent K-AnswerWords a6 h6) ∷ ‵ (lent K-Watch a4 h4) ∷ ‵ (lent K-Servo a2 h2) ∷ ‵ (ftrue) ∷ ‵ ((row-of K-u64) .own h5 ((K-u64 .val h5) ∷ [])) ∷ leave-all ∷ ‵ (froom (tyRef erased mut (pointee (row-of K-AnswerWords .written))) l29 0) ∷ ‵ (froom (tyRef erased mut (pointee (row-of K-Watch .written))) l28 0) ∷ ‵ (froom (tyRef erased mut (pointee (row-of K-Servo .written))) l27 0) ∷ ‵ (froom (tyRef erased mut (pointee (row-of K-UnitWords .written))) l26 0) ∷ ‵ (froom tyUnit l25 0) ∷ ‵ (froom tyPtr l24 0) ∷ ‵ (froom tyPtr l23 0) ∷ ‵ (froom tyPtr l22 0) ∷ ‵ (froom tyPtr l21 0) ∷ ‵ (fat fullShare (ty K-MasterWords) l20 0 (K-MasterWords .val (getD h3 0 noMaster))) ∷ ‵ (froom tyPtr l19 0) ∷ ‵ (froom (ty K-AnswerWords) l18 0) ∷ ‵ (froom tyBool l17 0) ∷ ‵ (froom (tyInt w64) l16 0) ∷ ‵ (froom (ty K-Held) l15 0) ∷ ‵ (froom (ty K-Candidate) l14 0) ∷ ‵ (froom (ty K-Candidate) l13 0) ∷ ‵ (froom (ty K-Candidate) l12 0) ∷ ‵ (froom (ty K-Candidate) l11 0) ∷ ‵ (froom (ty K-Candidate) l10 0) ∷ ‵ (fat fullShare (tyInt w32) l9 0 (K-u32 .val p-9)) ∷ ‵ (fat fullShare (ty K-StateWords) l8 0 (K-StateWords .val (h1 .state))) ∷ ‵ (froom (ty K-SettingsWords) l7 0) ∷ ‵ (fat fullShare (tyRef (named 4) mut (pointee (row-of K-AnswerWords .written))) l6 0 (vptr (a6 .block) (a6 .offset))) ∷ ‵ (fat fullShare (tyInt w64) l5 0 (K-u64 .val h5)) ∷ ‵ (fat fullShare (tyRef (named 3) mut (pointee (row-of K-Watch .written))) l4 0 (vptr (a4 .block) (a4 .offset))) ∷ ‵ (fat fullShare (sliceTy (tyRef (named 2) mut (pointee (row-of K-MasterWords .written)))) l3 0 (sliceVal (a3 .block, a3 .offset) (length h3))) ∷ ‵ (fat fullShare (tyRef (named 1) mut (pointee (row-of K-Servo .written))) l2 0 (vptr (a2 .block) (a2 .offset))) ∷ ‵ (fat fullShare (tyRef (named 0) mut (pointee (row-of K-UnitWords .written))) l1 0 (vptr (a1 .block) (a1 .offset))) ∷ ‵ (froom tyUnit l0 0) ∷ []) (runs C Λ En mir′.t-9 (atRet En Post))
+      from-9 : (good : Holds (not (not (eqb (length h3) 5)))) (g-6 : Fits K-SettingsWords (h1 .settings)) (g-8 : Fits K-StateWords (h1 .state)) (p-9 : ℕ) (e-10 : p-9 ≡ intervalOf ((h1 .settings) .announce)) (is-11 : Fits K-u32 p-9) (g-13 : Fits K-MasterWords (getD h3 0 freshMaster)) → Sq W (‵ (slice K-MasterWords a3 (length h3) h3) ∷ ‵ (lent K-UnitWords a1 h1) ∷ ‵ (lent K-AnswerWords a6 h6) ∷ ‵ (lent K-Watch a4 h4) ∷ ‵ (lent K-Servo a2 h2) ∷ ‵ (ftrue) ∷ ‵ ((row-of K-u64) .own h5 ((K-u64 .val h5) ∷ [])) ∷ leave-all ∷ ‵ (froom (tyRef erased mut (pointee (row-of K-AnswerWords .written))) l29 0) ∷ ‵ (froom (tyRef erased mut (pointee (row-of K-Watch .written))) l28 0) ∷ ‵ (froom (tyRef erased mut (pointee (row-of K-Servo .written))) l27 0) ∷ ‵ (froom (tyRef erased mut (pointee (row-of K-UnitWords .written))) l26 0) ∷ ‵ (froom tyUnit l25 0) ∷ ‵ (froom tyPtr l24 0) ∷ ‵ (froom tyPtr l23 0) ∷ ‵ (froom tyPtr l22 0) ∷ ‵ (froom tyPtr l21 0) ∷ ‵ (fat fullShare (ty K-MasterWords) l20 0 (K-MasterWords .val (getD h3 0 freshMaster))) ∷ ‵ (froom tyPtr l19 0) ∷ ‵ (froom (ty K-AnswerWords) l18 0) ∷ ‵ (froom tyBool l17 0) ∷ ‵ (froom (tyInt w64) l16 0) ∷ ‵ (froom (ty K-Held) l15 0) ∷ ‵ (froom (ty K-Candidate) l14 0) ∷ ‵ (froom (ty K-Candidate) l13 0) ∷ ‵ (froom (ty K-Candidate) l12 0) ∷ ‵ (froom (ty K-Candidate) l11 0) ∷ ‵ (froom (ty K-Candidate) l10 0) ∷ ‵ (fat fullShare (tyInt w32) l9 0 (K-u32 .val p-9)) ∷ ‵ (fat fullShare (ty K-StateWords) l8 0 (K-StateWords .val (h1 .state))) ∷ ‵ (froom (ty K-SettingsWords) l7 0) ∷ ‵ (fat fullShare (tyRef (named 4) mut (pointee (row-of K-AnswerWords .written))) l6 0 (vptr (a6 .block) (a6 .offset))) ∷ ‵ (fat fullShare (tyInt w64) l5 0 (K-u64 .val h5)) ∷ ‵ (fat fullShare (tyRef (named 3) mut (pointee (row-of K-Watch .written))) l4 0 (vptr (a4 .block) (a4 .offset))) ∷ ‵ (fat fullShare (sliceTy (tyRef (named 2) mut (pointee (row-of K-MasterWords .written)))) l3 0 (sliceVal (a3 .block, a3 .offset) (length h3))) ∷ ‵ (fat fullShare (tyRef (named 1) mut (pointee (row-of K-Servo .written))) l2 0 (vptr (a2 .block) (a2 .offset))) ∷ ‵ (fat fullShare (tyRef (named 0) mut (pointee (row-of K-UnitWords .written))) l1 0 (vptr (a1 .block) (a1 .offset))) ∷ ‵ (froom tyUnit l0 0) ∷ []) (runs C Λ En mir′.t-9 (atRet En Post))
       from-9 good g-6 g-8 p-9 e-10 is-11 g-13 =
           calls-value ! fm known-candidate (by-candidate 𝓤 H A W at-mem run g-13 g5 is-11) (and-then ! (load ! (from ! (stop !)) (look ! 18 refl)) (and-then ! (load ! (from ! (stop !)) (look ! 33 refl)) (and-then ! (load ! (from ! (stop !)) (look ! 29 refl)) (no-more !)))) (λ p-14 _ e-15 is-16. land ! (from ! (stop !)) (init ! 27 refl (typed W is-16)) $
           assigns ! (bin ! (load ! (from ! (fld ! refl (stop !))) (look-in ! 34 (sub ! 0 refl (whole !)))) (lit ! tt) tt) (from ! (stop !)) (init ! 16 refl (tt, tt)) $ rewrite ! 16 (λ (p : ℕ). ‵ (fat fullShare tyPtr l21 0 (vptr (a3 .block) p))) (sym (place-is 96 (a3 .offset) 1)) refl $
-          opens-row ! tt K-MasterWords a3 (length h3) h3 1 noMaster (subst (λ (m : ℕ). 1 < m) (sym (is-N good)) (lit< tt)) (λ g-17. assigns ! (of-opd ! (load ! (from ! (hop ! (look ! 17 refl) (stop !))) (look ! 0 refl))) (from ! (stop !)) (store ! 18 refl (typed W g-17)) $ shuts-row ! tt a3 (length h3) h3 1 noMaster (subst (λ (m : ℕ). 1 < m) (sym (is-N good)) (lit< tt)) g-17 $
+          opens-row ! tt K-MasterWords a3 (length h3) h3 1 freshMaster (subst (λ (m : ℕ). 1 < m) (sym (is-N good)) (lit< tt)) (λ g-17. assigns ! (of-opd ! (load ! (from ! (hop ! (look ! 17 refl) (stop !))) (look ! 0 refl))) (from ! (stop !)) (store ! 18 refl (typed W g-17)) $ shuts-row ! tt a3 (length h3) h3 1 freshMaster (subst (λ (m : ℕ). 1 < m) (sym (is-N good)) (lit< tt)) g-17 $
           forget ! 16 refl $ from-12 good g-6 g-8 p-9 e-10 is-11 g-13 p-14 e-15 is-16 g-17))
 
       from-6 : (good : Holds (not (not (eqb (length h3) 5)))) (g-6 : Fits K-SettingsWords (h1 .settings)) (g-8 : Fits K-StateWords (h1 .state)) → Sq W (‵ (lent K-UnitWords a1 h1) ∷ ‵ (lent K-AnswerWords a6 h6) ∷ ‵ (lent K-Watch a4 h4) ∷ ‵ (slice K-MasterWords a3 (length h3) h3) ∷ ‵ (lent K-Servo a2 h2) ∷ ‵ (ftrue) ∷ ‵ ((row-of K-u64) .own h5 ((K-u64 .val h5) ∷ [])) ∷ leave-all ∷ ‵ (froom (tyRef erased mut (pointee (row-of K-AnswerWords .written))) l29 0) ∷ ‵ (froom (tyRef erased mut (pointee (row-of K-Watch .written))) l28 0) ∷ ‵ (froom (tyRef erased mut (pointee (row-of K-Servo .written))) l27 0) ∷ ‵ (froom (tyRef erased mut (pointee (row-of K-UnitWords .written))) l26 0) ∷ ‵ (froom tyUnit l25 0) ∷ ‵ (froom tyPtr l24 0) ∷ ‵ (froom tyPtr l23 0) ∷ ‵ (froom tyPtr l22 0) ∷ ‵ (froom tyPtr l21 0) ∷ ‵ (froom (ty K-MasterWords) l20 0) ∷ ‵ (froom tyPtr l19 0) ∷ ‵ (froom (ty K-AnswerWords) l18 0) ∷ ‵ (froom tyBool l17 0) ∷ ‵ (froom (tyInt w64) l16 0) ∷ ‵ (froom (ty K-Held) l15 0) ∷ ‵ (froom (ty K-Candidate) l14 0) ∷ ‵ (froom (ty K-Candidate) l13 0) ∷ ‵ (froom (ty K-Candidate) l12 0) ∷ ‵ (froom (ty K-Candidate) l11 0) ∷ ‵ (froom (ty K-Candidate) l10 0) ∷ ‵ (froom (tyInt w32) l9 0) ∷ ‵ (fat fullShare (ty K-StateWords) l8 0 (K-StateWords .val (h1 .state))) ∷ ‵ (fat fullShare (ty K-SettingsWords) l7 0 (K-SettingsWords .val (h1 .settings))) ∷ ‵ (fat fullShare (tyRef (named 4) mut (pointee (row-of K-AnswerWords .written))) l6 0 (vptr (a6 .block) (a6 .offset))) ∷ ‵ (fat fullShare (tyInt w64) l5 0 (K-u64 .val h5)) ∷ ‵ (fat fullShare (tyRef (named 3) mut (pointee (row-of K-Watch .written))) l4 0 (vptr (a4 .block) (a4 .offset))) ∷ ‵ (fat fullShare (sliceTy (tyRef (named 2) mut (pointee (row-of K-MasterWords .written)))) l3 0 (sliceVal (a3 .block, a3 .offset) (length h3))) ∷ ‵ (fat fullShare (tyRef (named 1) mut (pointee (row-of K-Servo .written))) l2 0 (vptr (a2 .block) (a2 .offset))) ∷ ‵ (fat fullShare (tyRef (named 0) mut (pointee (row-of K-UnitWords .written))) l1 0 (vptr (a1 .block) (a1 .offset))) ∷ ‵ (froom tyUnit l0 0) ∷ []) (runs C Λ En mir′.t-6 (atRet En Post))
       from-6 good g-6 g-8 =
           calls-value ! fm known-span (by-span 𝓤 H A W at-mem run g-6) (and-then ! (load ! (from ! (stop !)) (look ! 31 refl)) (no-more !)) (λ p-9 _ e-10 is-11. land ! (from ! (stop !)) (init ! 28 refl (typed W is-11)) $
           assigns ! (bin ! (load ! (from ! (fld ! refl (stop !))) (look-in ! 34 (sub ! 0 refl (whole !)))) (lit ! tt) tt) (from ! (stop !)) (init ! 18 refl (tt, tt)) $ rewrite ! 18 (λ (p : ℕ). ‵ (fat fullShare tyPtr l19 0 (vptr (a3 .block) p))) (sym (place-is 96 (a3 .offset) 0)) refl $
-          move ! (3 ∷ []) $ opens-row ! tt K-MasterWords a3 (length h3) h3 0 noMaster (subst (λ (m : ℕ). 0 < m) (sym (is-N good)) (lit< tt)) (λ g-12. assigns ! (of-opd ! (load ! (from ! (hop ! (look ! 19 refl) (stop !))) (look ! 0 refl))) (from ! (stop !)) (init ! 18 refl (typed W g-12)) $ shuts-row ! tt a3 (length h3) h3 0 noMaster (subst (λ (m : ℕ). 0 < m) (sym (is-N good)) (lit< tt)) g-12 $
+          move ! (3 ∷ []) $ opens-row ! tt K-MasterWords a3 (length h3) h3 0 freshMaster (subst (λ (m : ℕ). 0 < m) (sym (is-N good)) (lit< tt)) (λ g-12. assigns ! (of-opd ! (load ! (from ! (hop ! (look ! 19 refl) (stop !))) (look ! 0 refl))) (from ! (stop !)) (init ! 18 refl (typed W g-12)) $ shuts-row ! tt a3 (length h3) h3 0 freshMaster (subst (λ (m : ℕ). 0 < m) (sym (is-N good)) (lit< tt)) g-12 $
           forget ! 30 refl $ forget ! 18 refl $ from-9 good g-6 g-8 p-9 e-10 is-11 g-12))
 
       from-4 : (good : Holds (not (not (eqb (length h3) 5)))) → Sq W (‵ (lent K-AnswerWords a6 h6) ∷ ‵ (lent K-Watch a4 h4) ∷ ‵ (slice K-MasterWords a3 (length h3) h3) ∷ ‵ (lent K-Servo a2 h2) ∷ ‵ (lent K-UnitWords a1 h1) ∷ ‵ (ftrue) ∷ ‵ ((row-of K-u64) .own h5 ((K-u64 .val h5) ∷ [])) ∷ leave-all ∷ ‵ (froom (tyRef erased mut (pointee (row-of K-AnswerWords .written))) l29 0) ∷ ‵ (froom (tyRef erased mut (pointee (row-of K-Watch .written))) l28 0) ∷ ‵ (froom (tyRef erased mut (pointee (row-of K-Servo .written))) l27 0) ∷ ‵ (froom (tyRef erased mut (pointee (row-of K-UnitWords .written))) l26 0) ∷ ‵ (froom tyUnit l25 0) ∷ ‵ (froom tyPtr l24 0) ∷ ‵ (froom tyPtr l23 0) ∷ ‵ (froom tyPtr l22 0) ∷ ‵ (froom tyPtr l21 0) ∷ ‵ (froom (ty K-MasterWords) l20 0) ∷ ‵ (froom tyPtr l19 0) ∷ ‵ (froom (ty K-AnswerWords) l18 0) ∷ ‵ (froom tyBool l17 0) ∷ ‵ (froom (tyInt w64) l16 0) ∷ ‵ (froom (ty K-Held) l15 0) ∷ ‵ (froom (ty K-Candidate) l14 0) ∷ ‵ (froom (ty K-Candidate) l13 0) ∷ ‵ (froom (ty K-Candidate) l12 0) ∷ ‵ (froom (ty K-Candidate) l11 0) ∷ ‵ (froom (ty K-Candidate) l10 0) ∷ ‵ (froom (tyInt w32) l9 0) ∷ ‵ (froom (ty K-StateWords) l8 0) ∷ ‵ (froom (ty K-SettingsWords) l7 0) ∷ ‵ (fat fullShare (tyRef (named 4) mut (pointee (row-of K-AnswerWords .written))) l6 0 (vptr (a6 .block) (a6 .offset))) ∷ ‵ (fat fullShare (tyInt w64) l5 0 (K-u64 .val h5)) ∷ ‵ (fat fullShare (tyRef (named 3) mut (pointee (row-of K-Watch .written))) l4 0 (vptr (a4 .block) (a4 .offset))) ∷ ‵ (fat fullShare (sliceTy (tyRef (named 2) mut (pointee (row-of K-MasterWords .written)))) l3 0 (sliceVal (a3 .block, a3 .offset) (length h3))) ∷ ‵ (fat fullShare (tyRef (named 1) mut (pointee (row-of K-Servo .written))) l2 0 (vptr (a2 .block) (a2 .offset))) ∷ ‵ (fat fullShare (tyRef (named 0) mut (pointee (row-of K-UnitWords .written))) l1 0 (vptr (a1 .block) (a1 .offset))) ∷ ‵ (froom tyUnit l0 0) ∷ []) (runs C Λ En mir′.t-4 (atRet En Post))

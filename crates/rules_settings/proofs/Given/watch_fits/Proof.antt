@@ -1,11 +1,11 @@
--- `Given::watches` meets its contract.
+-- `Given::watch_fits` meets its contract.
 use borrow.Author.Needs.{needs}
 use mir.Val.{SFits}
 use mir.Syntax.{w64}
 use Rattle.numbers.proofs.Integers.{back}
-use Rattle.rules_settings.specs.Ranges.{watchesOf}
-use Rattle.rules_settings.proofs.Given.watches.Statement.{statement}
-use Rattle.rules_settings.proofs.Given.watches.Tie as tie
+use Rattle.rules_settings.specs.Ranges.{watchFits}
+use Rattle.rules_settings.proofs.Given.watch_fits.Statement.{statement}
+use Rattle.rules_settings.proofs.Given.watch_fits.Tie as tie
 
 between-requires : tie.Need-between-requires
 between-requires c κs = search needs
@@ -65,7 +65,7 @@ fits-jump2 : (c : tie.After-struct-told8) → SFits w64 (c .before .before .befo
 fits-jump2 c = let g = c .struct-told8 .given .1 .1 .1 .1 .1 .1 in search needs
 
 returns : tie.Need-returns
-unfolding watchesOf
+unfolding watchFits
 returns c =
     rw (
       c .both6 .ensures,
@@ -82,8 +82,8 @@ returns c =
     )
     (rw (back (fits-spike (c .before .before .before .before .before .before .before .before .before)), back (fits-jump2 (c .before .before .before .before))))
 
-pub watches-spec : {M : Type 1} → statement M
-watches-spec =
+pub watch-fits-spec : {M : Type 1} → statement M
+watch-fits-spec =
     tie.close
     (tie.spec
     between-requires

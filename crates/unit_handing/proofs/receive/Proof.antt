@@ -1,8 +1,8 @@
 -- `receive` meets its contract.
 use mathlib.Core.Path.{sym, _∙_}
 use borrow.Author.Needs.{needs}
-use Rattle.unit.proofs.handing.receive.Statement.{statement}
-use Rattle.unit.proofs.handing.receive.Tie as tie
+use Rattle.unit_handing.proofs.receive.Statement.{statement}
+use Rattle.unit_handing.proofs.receive.Tie as tie
 
 read-requires : tie.Need-read-requires
 read-requires c κs = search needs

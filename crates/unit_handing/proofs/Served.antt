@@ -16,13 +16,13 @@ use Rattle.unit_core.specs.Answers.{isRefusal}
 use Rattle.unit_measuring.specs.Measuring.{bySaid, exchanges}
 use Rattle.unit_measuring.specs.Asking.{requestGrounds, withNextSequence, requests}
 use Rattle.unit_measuring.specs.Frame.{frameBy}
-use Rattle.unit.specs.declared.handing.Asked.{Asked}
-use Rattle.unit.specs.declared.handing.Asked.the-variants.{Barred, Asks}
+use Rattle.unit_handing.specs.declared.Asked.{Asked}
+use Rattle.unit_handing.specs.declared.Asked.the-variants.{Barred, Asks}
 use Rattle.unit.specs.declared.Unit.{Unit}
 use Rattle.unit.specs.Calls.{applied}
-use Rattle.unit.specs.Handing.{Handed, receive, request, sent, time, reset, tick, line, show, askedOf, steppedBy, servedOf, frameIn, frameLeft, servedAll, withAsked, callsIn}
+use Rattle.unit_handing.specs.Handing.{Handed, receive, request, sent, time, reset, tick, line, show, askedOf, steppedBy, servedOf, frameIn, frameLeft, servedAll, withAsked, callsIn}
 use Rattle.unit.proofs.Refusals.{never, refused-same}
 use Rattle.unit.proofs.Simulation.{played}
 
 -- ---- a refusal leaves the unit as it was, ..
 kept : (c : Unit) (a : Asked) → isRefusal (steppedBy c a .answer) ≡ true → steppedBy c a .unit ≡ c

@@ -1,7 +1,7 @@
 -- `delay_req` meets its contract.
 use borrow.Author.Needs.{needs}
-use Rattle.unit.proofs.handing.delay_req.Statement.{statement}
-use Rattle.unit.proofs.handing.delay_req.Tie as tie
+use Rattle.unit_handing.proofs.delay_req.Statement.{statement}
+use Rattle.unit_handing.proofs.delay_req.Tie as tie
 
 kind-requires : tie.Need-kind-requires
 kind-requires c κs = search needs

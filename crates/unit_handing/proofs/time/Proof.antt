@@ -1,9 +1,9 @@
 -- `time` meets its contract.
 use borrow.Author.Tests.{eq-eqb, ne-eqb}
 use Rattle.numbers.specs.Grounds.{firstOf}
-use Rattle.unit.specs.Handing.{timeAsked}
-use Rattle.unit.proofs.handing.time.Statement.{statement}
-use Rattle.unit.proofs.handing.time.Tie as tie
+use Rattle.unit_handing.specs.Handing.{timeAsked}
+use Rattle.unit_handing.proofs.time.Statement.{statement}
+use Rattle.unit_handing.proofs.time.Tie as tie
 
 returns : tie.Need-returns
 unfolding timeAsked firstOf

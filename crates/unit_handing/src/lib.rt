@@ -1,11 +1,11 @@
 // Calls as they are handed over: what bars them before the unit is asked, and what it is asked.
 ghost use mathlib.Core.Path.{_≡_};
 ghost use Rattle.wire_layout.specs.Reading.{readOf};
-ghost use Rattle.unit.specs.Handing.{isDelayReq, messageAsked, readAsked, timeAsked, steppedBy};
-use crate::Stepped;
-use crate::Unit;
+ghost use Rattle.unit_handing.specs.Handing.{isDelayReq, messageAsked, readAsked, timeAsked, steppedBy};
 use numbers::refusal::Refusal;
 use numbers::stamp::Stamp;
+use unit::Stepped;
+use unit::Unit;
 use unit_core::calls::Answer;
 use unit_core::calls::Call;
 use wire_layout::kinds;
@@ -59,14 +59,15 @@ pub fn time(lent: usize, time: u64) -> Asked
     Asked::Barred(Refusal::Settings)
 }
 
-impl Unit {
-    // What is barred leaves the unit as it is.
-    pub fn serve(self, asked: Asked) -> Stepped
-        ensures { λ r. ⌜ r ≡ steppedBy self asked ⌝ }
-    {
-        match asked {
-            Asked::Barred(refusal) => self.says(Answer::Refused(refusal)),
-            Asked::Asks(call) => self.step(call),
-        }
+// What is barred leaves the unit as it is.
+pub fn serve(unit: Unit, asked: Asked) -> Stepped
+    ensures { λ r. ⌜ r ≡ steppedBy unit asked ⌝ }
+{
+    match asked {
+        Asked::Barred(refusal) => Stepped {
+            answer: Answer::Refused(refusal),
+            unit,
+        },
+        Asked::Asks(call) => unit.step(call),
     }
 }

@@ -22,11 +22,11 @@ use Rattle.unit_core.specs.declared.calls.Call.{Call}
 use Rattle.unit_core.specs.declared.calls.Call.the-variants.{Receive, Request, Sent, Time, Reset, Tick, Line, Show}
 use Rattle.unit_core.specs.declared.calls.Answer.the-variants.{Refused}
 use Rattle.unit_measuring.specs.Frame.{frameAfter}
-use Rattle.unit.specs.declared.handing.Asked.{Asked}
-use Rattle.unit.specs.declared.handing.Asked.the-variants.{Barred, Asks}
+use Rattle.unit_handing.specs.declared.Asked.{Asked}
+use Rattle.unit_handing.specs.declared.Asked.the-variants.{Barred, Asks}
 use Rattle.unit.specs.declared.Unit.{Unit}
 use Rattle.unit.specs.declared.Stepped.{Stepped}
 use Rattle.unit.specs.Calls.{stepOf}
 
 -- a call as it is handed over, T being what is known of the table that it is lent: here how many records it has
 pub data Handed (T : Type 0) : Type 0 where

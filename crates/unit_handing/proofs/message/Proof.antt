@@ -3,9 +3,9 @@ use mathlib.Core.Path.{sym, _∙_}
 use borrow.Author.Needs.{needs}
 use borrow.Author.Tests.{eq-eqb, ne-eqb}
 use Rattle.numbers.specs.Grounds.{firstOf}
-use Rattle.unit.specs.Handing.{messageAsked}
-use Rattle.unit.proofs.handing.message.Statement.{statement}
-use Rattle.unit.proofs.handing.message.Tie as tie
+use Rattle.unit_handing.specs.Handing.{messageAsked}
+use Rattle.unit_handing.proofs.message.Statement.{statement}
+use Rattle.unit_handing.proofs.message.Tie as tie
 
 delay-req-requires : tie.Need-delay-req-requires
 delay-req-requires c κs = search needs

@@ -1,11 +1,11 @@
--- `Given::steers` meets its contract.
+-- `Given::steering_fits` meets its contract.
 use borrow.Author.Needs.{needs}
 use mir.Val.{SFits}
 use mir.Syntax.{w64}
 use Rattle.numbers.proofs.Integers.{back}
-use Rattle.rules_settings.specs.Ranges.{steersOf}
-use Rattle.rules_settings.proofs.Given.steers.Statement.{statement}
-use Rattle.rules_settings.proofs.Given.steers.Tie as tie
+use Rattle.rules_settings.specs.Ranges.{steeringFits}
+use Rattle.rules_settings.proofs.Given.steering_fits.Statement.{statement}
+use Rattle.rules_settings.proofs.Given.steering_fits.Tie as tie
 
 between-requires : tie.Need-between-requires
 between-requires c κs = search needs
@@ -50,7 +50,7 @@ fits-limit : (c : tie.After-struct-told5) → SFits w64 (c .before .before .befo
 fits-limit c = search needs
 
 returns : tie.Need-returns
-unfolding steersOf
+unfolding steeringFits
 returns c =
     rw (
       c .both4 .ensures,
@@ -64,8 +64,8 @@ returns c =
       rw (back (fits-limit (c .before .before))) at (c .before .between5 .ensures),
     )
 
-pub steers-spec : {M : Type 1} → statement M
-steers-spec =
+pub steering-fits-spec : {M : Type 1} → statement M
+steering-fits-spec =
     tie.close
     (tie.spec
     between-requires

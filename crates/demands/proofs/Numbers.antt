@@ -43,7 +43,7 @@ use Rattle.rules_watch.specs.Rules.{Stamps, freshSince, outsideOf, followed, on
 use Rattle.rules_watch.specs.Watch.{freshWatch, watchAfter, watchLine}
 use Rattle.rules_watch.proofs.Examples.{bench, p11, p12}
 use Rattle.rules_settings.specs.declared.Given.{Given}
-use Rattle.rules_settings.specs.Ranges.{steersOf, watchesOf, bareSettings}
+use Rattle.rules_settings.specs.Ranges.{steeringFits, watchFits, bareSettings}
 use Rattle.unit_core.specs.Effects.{Stays}
 use Rattle.unit_choosing.specs.Choosing.{timeDue}
 use Rattle.unit_measuring.specs.Barring.{fieldIn, messageDue, ownDue}
@@ -567,7 +567,7 @@ given-as announce sync kp ki limit window minimum holdoff tolerance spike jump =
     }
 
 abbrev steers : ℤ → ℤ → ℤ → ℤ → ℤ → Bool
-steers announce sync kp ki limit = steersOf (given-as announce sync kp ki limit (pos 0) (pos 0) (pos 0) (pos 0) (pos 0) (pos 0))
+steers announce sync kp ki limit = steeringFits (given-as announce sync kp ki limit (pos 0) (pos 0) (pos 0) (pos 0) (pos 0) (pos 0))
 
 pub steering-ranges : (steers (pos 0) (pos 0) (pos 100) (pos 10) (pos 1) ≡ true)  -- rules 4.3 to 4.7: the lower ends
     × (steers (pos 4) (pos 7) (pos 1_000) (pos 500) (pos 100_000) ≡ true)  -- rules 4.3 to 4.7: the upper ends
@@ -581,11 +581,11 @@ pub steering-ranges : (steers (pos 0) (pos 0) (pos 100) (pos 10) (pos 1) ≡ tru
     × (steers (pos 0) (pos 0) (pos 100) (pos 501) (pos 1) ≡ false)  -- rule 4.6
     × (steers (pos 0) (pos 0) (pos 100) (pos 10) (pos 0) ≡ false)  -- rule 4.7
     × (steers (pos 0) (pos 0) (pos 100) (pos 10) (pos 100_001) ≡ false)  -- rule 4.7
-unfolding steersOf
+unfolding steeringFits
 steering-ranges = (refl, refl, refl, refl, refl, refl, refl, refl, refl, refl, refl, refl)
 
 abbrev watches : ℤ → ℤ → ℤ → ℤ → ℤ → ℤ → Bool
-watches window minimum holdoff tolerance spike jump = watchesOf (given-as (pos 0) (pos 0) (pos 0) (pos 0) (pos 0) window minimum holdoff tolerance spike jump)
+watches window minimum holdoff tolerance spike jump = watchFits (given-as (pos 0) (pos 0) (pos 0) (pos 0) (pos 0) window minimum holdoff tolerance spike jump)
 
 pub watching-ranges : (watches (pos 2) (pos 2) (pos 0) (pos 0) (pos 1) (pos 2) ≡ true)  -- rules 4.8 to 4.13: the lower ends
     × (watches (pos 128) (pos 128) (pos 10) (pos 100_000_000) (pos 999_999_998) (pos 999_999_999) ≡ true)  -- rules 4.8 to 4.13: the upper ends
@@ -601,5 +601,5 @@ pub watching-ranges : (watches (pos 2) (pos 2) (pos 0) (pos 0) (pos 1) (pos 2) �
     × (watches (pos 2) (pos 2) (pos 0) (pos 0) (pos 999_999_999) (pos 1_000_000_000) ≡ false)  -- rules 4.12 and 4.13
     × (watches (pos 2) (pos 2) (pos 0) (pos 0) (pos 5) (pos 5) ≡ false)  -- rule 4.13: not above the spike
     × (watches (pos 2) (pos 2) (pos 0) (pos 0) (pos 5) (pos 1_000_000_000) ≡ false)  -- rule 4.13
-unfolding watchesOf
+unfolding watchFits
 watching-ranges = (refl, refl, refl, refl, refl, refl, refl, refl, refl, refl, refl, refl, refl, refl)

@@ -1,4 +1,4 @@
--- The theorems: Demands states them, and the files before it prove what it cites; Numbers holds the formulas to numbers.
+-- The theorems: Demands states them, and the files before it prove what it cites. Numbers has examples of each formula, worked out by hand.
 mod Refusing
 mod Requests
 mod Lines

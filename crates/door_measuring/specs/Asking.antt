@@ -17,8 +17,8 @@ use Rattle.door_words.specs.Answers.{spoken, refusing, noRate}
 use Rattle.door_measuring.specs.declared.asking.Requested.{Requested}
 
 -- the request is pending, and its sequenceId is used up
-abbrev pub pendingWith : StateWords → HalvesWords → ℕ → Requested
-pendingWith t h now =
+abbrev pub askedWith : StateWords → HalvesWords → ℕ → Requested
+askedWith t h now =
     record {
       answer = spoken 5 (t .sequence) noneFound noRate;
       state = record { now = now; at = t .at; chosen = t .chosen; wipes = t .wipes; sequence = (t .sequence + 1) % 2 ^ 16; measured = t .measured; faulty = t .faulty };
@@ -28,7 +28,7 @@ pendingWith t h now =
 -- a refusal leaves both as they were
 abbrev pub requestedBy : StateWords → HalvesWords → ℕ → Ruling → Requested
 requestedBy t h now (Barred n) = record { answer = refusing (numberOf n); state = t; halves = h }
-requestedBy t h now Clear = pendingWith t h now
+requestedBy t h now Clear = askedWith t h now
 
 abbrev pub requestedOf : SettingsWords → StateWords → HalvesWords → ℕ → ℕ → Requested
 requestedOf s t h now room = requestedBy t h now (firstOf (requestGrounds (staysOf (coreOf s t h (delaysWords freshExchange))) now room))

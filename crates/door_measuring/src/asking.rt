@@ -4,7 +4,7 @@ ghost use lib.ListN.{length};
 ghost use Rattle.unit_measuring.specs.Frame.{frameAfter};
 ghost use Rattle.rules_exchange.specs.Events.{freshExchange};
 ghost use Rattle.door_records.specs.Unit.{delaysWords, coreOf};
-ghost use Rattle.door_measuring.specs.Asking.{pendingWith, requestedOf};
+ghost use Rattle.door_measuring.specs.Asking.{askedWith, requestedOf};
 use door_records::exchange::DelaysWords;
 use door_records::exchange::HalvesWords;
 use door_records::exchange::RequestWords;
@@ -30,7 +30,7 @@ pub struct Requested {
 
 // The request is pending, and its sequenceId is used up.
 fn asked(mut t: StateWords, mut h: HalvesWords, now: u64) -> Requested
-    ensures { λ r. ⌜ r ≡ pendingWith t h now ⌝ }
+    ensures { λ r. ⌜ r ≡ askedWith t h now ⌝ }
 {
     let sequence = t.sequence;
     let pending = Request {

@@ -24,15 +24,13 @@ static struct {
     uint8_t guard3[256];
     struct sinezhab_watch watch;
     uint8_t guard4[256];
-    struct sinezhab_grants grants;
-    uint8_t guard5[256];
     struct sinezhab_answer answer;
-    uint8_t guard6[256];
+    uint8_t guard5[256];
 } lent;
 
 static uint64_t now;
 static unsigned checks, wrong;
-static bool answered[SINEZHAB_ANSWER_SIGNALED + 1], refused[SINEZHAB_REFUSAL_GRANT + 1];
+static bool answered[SINEZHAB_ANSWER_SHOWS + 1], refused[SINEZHAB_REFUSAL_NOT_READY + 1];
 
 static void need(bool holds, const char *what)
 {
@@ -52,7 +50,7 @@ static bool all(const uint8_t *octets, size_t n, uint8_t value)
 static bool guarded(void)
 {
     return all(lent.guard0, 256, GUARD) && all(lent.guard1, 256, GUARD) && all(lent.guard2, 256, GUARD) && all(lent.guard3, 256, GUARD) &&
-           all(lent.guard4, 256, GUARD) && all(lent.guard5, 256, GUARD) && all(lent.guard6, 256, GUARD);
+           all(lent.guard4, 256, GUARD) && all(lent.guard5, 256, GUARD);
 }
 
 /* The last call's answer has this code. */
@@ -83,26 +81,22 @@ static struct sinezhab_given settings(void)
     return g;
 }
 
-static void fresh_with(struct sinezhab_given given)
+static void fresh(void)
 {
-    struct sinezhab_made made = sinezhab_make(given);
+    struct sinezhab_made made = sinezhab_make(settings());
     memset(&lent, GUARD, sizeof lent);
     lent.unit = made.unit;
     lent.servo = made.servo;
     memset(lent.table, 0, sizeof lent.table);
     memset(&lent.watch, 0, sizeof lent.watch);
-    memset(&lent.grants, 0, sizeof lent.grants);
     now = 0;
 }
-
-static void fresh(void) { fresh_with(settings()); }
 
 static struct sinezhab_stamp stamp(int64_t ns) { return (struct sinezhab_stamp){ (uint64_t)(ns / SECOND), (uint32_t)(ns % SECOND) }; }
 
 static void receive(const uint8_t *octets, size_t length, int64_t arrival)
 {
-    sinezhab_receive(&lent.unit, &lent.servo, lent.table, SINEZHAB_TABLE, &lent.watch, &lent.grants, octets, length, ++now, stamp(arrival),
-                     &lent.answer);
+    sinezhab_receive(&lent.unit, &lent.servo, lent.table, SINEZHAB_TABLE, &lent.watch, octets, length, ++now, stamp(arrival), &lent.answer);
 }
 
 static void request(size_t length)
@@ -138,7 +132,7 @@ static void put(uint8_t *octets, uint64_t value, size_t n)
     for (size_t i = 0; i < n; i++) octets[i] = (uint8_t)(value >> 8 * (n - 1 - i));
 }
 
-/* One of the six kinds in domain 3, from MASTER, with its timestamp in ns: its length. */
+/* One of the five kinds in domain 3, from MASTER, with its timestamp in ns: its length. */
 static size_t message(uint8_t *octets, uint8_t kind, uint16_t sequence, int64_t ns)
 {
     size_t length = kind == 11 ? 64 : kind == 9 ? 54 : 44;
@@ -154,7 +148,6 @@ static size_t message(uint8_t *octets, uint8_t kind, uint16_t sequence, int64_t 
     put(octets + 34, (uint64_t)(ns / SECOND), 6);
     put(octets + 40, (uint64_t)(ns % SECOND), 4);
     if (kind == 9) put(octets + 44, OWN, 8), put(octets + 52, 9, 2);
-    if (kind == 12) put(octets + 34, OWN, 8), put(octets + 42, 9, 2);
     if (kind == 11) put(octets + 53, MASTER, 8);
     return length;
 }
@@ -173,19 +166,6 @@ static void hear_with(uint8_t kind, size_t at, uint64_t value, size_t n)
     size_t length = message(octets, kind, 500, 5);
     put(octets + at, value, n);
     receive(octets, length, 0);
-}
-
-/* A Signaling from MASTER or a neighbour, with one unicast TLV, to the port of this number. */
-static void signal(uint8_t sender, uint16_t port, struct sinezhab_tlv tlv)
-{
-    uint8_t octets[64];
-    size_t length = message(octets, 12, 1, 0);
-    struct sinezhab_written w = sinezhab_tlv(tlv, octets + length, sizeof octets - length);
-    need(w.refused == 0, "a unicast TLV");
-    octets[27] = sender;
-    put(octets + 42, port, 2);
-    octets[3] = (uint8_t)(length + w.length);
-    receive(octets, length + w.length, 0);
 }
 
 static void choose(void)
@@ -219,8 +199,6 @@ static uint64_t room[8192];
 
 void made_into(void *room, struct sinezhab_given given) __asm__("sinezhab_make"); /* as the ABI has them: the result goes to a pointer */
 void message_into(void *room, const uint8_t *octets, size_t length) __asm__("sinezhab_read");
-void tlv_into(void *room, const uint8_t *octets, size_t length, size_t from) __asm__("sinezhab_walk");
-void shown_into(void *room, struct sinezhab_grants grants, uint64_t now, struct sinezhab_shown last) __asm__("sinezhab_grants");
 
 static void fill_made(void) { made_into(room, settings()); }
 static void fill_watch(void) { sinezhab_reset(&lent.unit, &lent.servo, (void *)room, &lent.answer); }
@@ -233,9 +211,6 @@ static void fill_message(void)
     size_t length = message(octets, 11, 1, 0);
     message_into(room, octets, length);
 }
-
-static void fill_tlv(void) { tlv_into(room, NULL, 0, 0); }
-static void fill_shown(void) { shown_into(room, lent.grants, 0, (struct sinezhab_shown){ 0 }); }
 
 /* `gaps`: there are octets between or behind the fields that need not be written. */
 static void size(const char *name, void (*fill)(void), size_t expected, bool gaps)
@@ -264,8 +239,6 @@ static void check_sizes(void)
     size("watch", fill_watch, sizeof(struct sinezhab_watch), false);
     size("servo", fill_servo, sizeof(struct sinezhab_servo), false);
     size("answer", fill_answer, sizeof(struct sinezhab_answer), false);
-    size("tlv", fill_tlv, sizeof(struct sinezhab_tlv), false);
-    size("shown", fill_shown, sizeof(struct sinezhab_shown), false);
 }
 
 /* Five senders, whose Announces have the same mark in their correction: it is found five times, a record apart. */
@@ -301,7 +274,7 @@ static void check_settings(void)
     const struct { int64_t *field, low, high; } ranges[] = {
         { &g.announce, 0, 4 },  { &g.sync, 0, 7 },     { &g.kp, 100, 1000 },           { &g.ki, 10, 500 },
         { &g.limit, 1, 100000 }, { &g.window, 2, 128 }, { &g.minimum, 2, 128 },         { &g.holdoff, 0, 10 },
-        { &g.tolerance, 0, 100000000 }, { &g.spike, 1, 999999998 }, { &g.jump, 2, 999999999 }, { &g.unicast, 0, 1 },
+        { &g.tolerance, 0, 100000000 }, { &g.spike, 1, 999999998 }, { &g.jump, 2, 999999999 },
     };
     for (size_t i = 0; i < sizeof ranges / sizeof *ranges; i++) {
         const int64_t tried[] = { ranges[i].low, ranges[i].high, ranges[i].low - 1, ranges[i].high + 1 };
@@ -343,92 +316,6 @@ static void check_messages(void)
     need(w.refused == SINEZHAB_REFUSAL_ROOM && w.length == 0, "ROOM of a message that does not fit");
     m = sinezhab_read(octets, message(octets, 9, 1, 0));
     need(m.kind == 9 && m.requester.clock == OWN && m.requester.number == 9, "a Delay_Resp's requester");
-    m = sinezhab_read(octets, message(octets, 12, 1, 0));
-    need(m.kind == 12 && m.requester.clock == OWN && m.requester.number == 9 && m.stamp.seconds == 0, "a Signaling's target");
-    w = sinezhab_write(m, NULL, 0, part, sizeof part);
-    need(w.refused == 0 && w.length == 44 && memcmp(part, octets, 44) == 0, "a Signaling that is written again");
-}
-
-/* Every field of each unicast TLV under its name, and written again; the refusals of both calls. */
-static void check_tlvs(void)
-{
-    static const uint8_t row[40] = {
-        0, 3, 0, 0, 0, 4, 0, 6, 0x9a, 0xfd, 1, 2, 3, 4, 0, 5, 0, 8, 0xb1, 5, 6, 7, 8, 9, 10, 11, 0, 6, 0, 2, 0xc2, 12, 0, 7, 0, 2, 0xd3, 13,
-        0, 6,
-    };
-    uint8_t part[16] = { 0 };
-    struct sinezhab_tlv request = sinezhab_walk(row, 38, 0), grant = sinezhab_walk(row, 38, request.behind);
-    struct sinezhab_tlv cancel = sinezhab_walk(row, 38, grant.behind), acknowledge = sinezhab_walk(row, 38, cancel.behind);
-    struct sinezhab_tlv none = sinezhab_walk(row, 38, acknowledge.behind);
-    need(request.found && request.place == 4 && request.behind == 14 && request.type == 4, "a request's place and type");
-    need(request.message == 9 && request.low == 10 && request.interval == -3 && request.seconds == 0x01020304, "a request's fields");
-    need(request.reserved == 0 && request.renewal == 0, "a request's octets that it has not");
-    need(grant.found && grant.place == 14 && grant.behind == 26 && grant.type == 5, "a grant's place and type");
-    need(grant.message == 11 && grant.low == 1 && grant.interval == 5 && grant.seconds == 0x06070809, "a grant's fields");
-    need(grant.reserved == 10 && grant.renewal == 11, "a grant's last octets");
-    need(cancel.place == 26 && cancel.type == 6 && cancel.message == 12 && cancel.low == 2 && cancel.reserved == 12, "a cancel's fields");
-    need(acknowledge.place == 32 && acknowledge.behind == 38 && acknowledge.type == 7 && acknowledge.reserved == 13, "an acknowledgement");
-    need(none.refused == 0 && none.found == 0, "none at the end");
-    need(sinezhab_walk(row, 40, 38).refused == SINEZHAB_REFUSAL_SUFFIX, "SUFFIX of half a TLV");
-    need(sinezhab_walk(row, 38, 39).refused == SINEZHAB_REFUSAL_SUFFIX, "SUFFIX beyond the end");
-    memcpy(part, row + 26, 6);
-    part[3] = 0;
-    need(sinezhab_walk(part, 4, 0).refused == SINEZHAB_REFUSAL_LENGTH, "LENGTH of an empty cancel");
-    const struct sinezhab_tlv *const each[] = { &request, &grant, &cancel, &acknowledge };
-    for (size_t i = 0; i < 4; i++) {
-        size_t n = each[i]->behind - each[i]->place;
-        memset(part, GUARD, sizeof part);
-        struct sinezhab_written w = sinezhab_tlv(*each[i], part, sizeof part);
-        need(w.refused == 0 && w.length == n && memcmp(part, row + each[i]->place, n) == 0 && part[n] == GUARD, "a TLV that is written again");
-        w = sinezhab_tlv(*each[i], part, n - 1);
-        need(w.refused == SINEZHAB_REFUSAL_ROOM && w.length == 0, "ROOM of a TLV that does not fit");
-    }
-    grant.low = 16;
-    need(sinezhab_tlv(grant, part, sizeof part).refused == SINEZHAB_REFUSAL_FIELD, "FIELD of a TLV");
-    need(sinezhab_tlv(none, part, sizeof part).refused == SINEZHAB_REFUSAL_KIND, "KIND of no TLV");
-    cancel.refused = SINEZHAB_REFUSAL_LENGTH;
-    need(sinezhab_tlv(cancel, part, sizeof part).refused == SINEZHAB_REFUSAL_KIND, "KIND of a refused TLV");
-}
-
-/* Grants: five senders, each with its own seconds; shown in rising order, and asked for where unicast is set. */
-static void check_grants(void)
-{
-    const struct sinezhab_tlv grant = { .type = 5, .message = 11, .seconds = 7 };
-    struct sinezhab_tlv tlv = grant;
-    struct sinezhab_shown s = { 0 };
-    struct sinezhab_given given = settings();
-    given.unicast = 1;
-    fresh_with(given);
-    s = sinezhab_grants(lent.grants, now, s);
-    need(!s.some, "no grant");
-    signal(1, 8, grant);
-    refusal(SINEZHAB_REFUSAL_TARGET, "TARGET of another port");
-    signal(9, 9, grant);
-    code(SINEZHAB_ANSWER_SIGNALED, "SIGNALED by a grant");
-    tlv.message = 0, tlv.seconds = 8;
-    signal(9, 9, tlv);
-    tlv.message = 9, tlv.seconds = 9;
-    signal(9, 9, tlv);
-    for (uint8_t sender = 1; sender < 5; sender++) signal(sender, 9, grant);
-    code(SINEZHAB_ANSWER_SIGNALED, "SIGNALED by a fifth sender");
-    signal(6, 9, grant);
-    refusal(SINEZHAB_REFUSAL_FULL, "FULL by a sixth sender's grant");
-    unsigned shown = 0;
-    for (s = sinezhab_grants(lent.grants, now, (struct sinezhab_shown){ 0 }); s.some; s = sinezhab_grants(lent.grants, now, s)) {
-        uint64_t last = shown < 4 ? shown + 1 : 9;
-        need(s.clock == (MASTER & ~(uint64_t)255) + last && s.number == 6 && s.announce == 7, "a sender's grants in their order");
-        if (++shown == 5) need(s.announced == 2 && s.sync == 8 && s.synced == 3 && s.response == 9 && s.responded == 4, "a sender's grants");
-    }
-    need(shown == 5, "the senders that are shown");
-    hear_with(11, 27, 5, 1);
-    refusal(SINEZHAB_REFUSAL_GRANT, "GRANT of an Announce without one");
-    choose();
-    hear(0, 1, 0, 1);
-    refusal(SINEZHAB_REFUSAL_GRANT, "GRANT of a Sync without one");
-    tlv = (struct sinezhab_tlv){ .type = 6, .message = 11 };
-    signal(1, 9, tlv);
-    hear(11, 3, 0, 0);
-    refusal(SINEZHAB_REFUSAL_GRANT, "GRANT of an Announce after a cancel");
 }
 
 /* The refusals of octets, and of whatever needs no master. */
@@ -583,8 +470,6 @@ int main(void)
     check_sizes();
     check_settings();
     check_messages();
-    check_tlvs();
-    check_grants();
     check_records();
     check_refusals();
     check_exchange();
@@ -592,10 +477,10 @@ int main(void)
     check_watch();
     for (size_t i = 0; i < sizeof answered / sizeof *answered; i++) codes += answered[i];
     for (size_t i = 1; i < sizeof refused / sizeof *refused; i++) numbers += refused[i];
-    need(codes == 25 && numbers == 23, "the number of answers and refusals that were brought about");
-    printf("layout: version %u.%u; unit %d, servo %zu, record %d, watch %d, grants %d, answer %zu octets", SINEZHAB_VERSION >> 16,
+    need(codes == 24 && numbers == 21, "the number of answers and refusals that were brought about");
+    printf("layout: version %u.%u; unit %d, servo %zu, record %d, watch %d, answer %zu octets", SINEZHAB_VERSION >> 16,
            SINEZHAB_VERSION >> 8 & 255, SINEZHAB_UNIT_SIZE, sizeof(struct sinezhab_servo), SINEZHAB_RECORD_SIZE, SINEZHAB_WATCH_SIZE,
-           SINEZHAB_GRANTS_SIZE, sizeof(struct sinezhab_answer));
+           sizeof(struct sinezhab_answer));
     printf("; %u refusals, %u answers: %u of %u checks hold\n", numbers, codes, checks - wrong, checks);
     return wrong != 0;
 }

@@ -22,7 +22,6 @@ static struct {
     struct sinezhab_servo servo;
     struct sinezhab_watch watch;
     struct sinezhab_record table[RECORDS];
-    struct sinezhab_grants grants;
 } desk = { .lent = SINEZHAB_TABLE };
 
 static uint8_t octets[LONGEST / 2]; /* those of the call that is read */
@@ -85,18 +84,6 @@ static int64_t signed_number(struct words *w, int64_t most)
     d.length--;
     uint64_t below = digits(w, d, (uint64_t)most + 1);
     return below == 0 ? 0 : -1 - (int64_t)(below - 1);
-}
-
-/* A word `name=value`, where there is one more: any i64. */
-static int64_t named_number(struct words *w, const char *name)
-{
-    size_t n = strlen(name);
-    if ((size_t)(w->end - w->at) < n || memcmp(w->at, name, n) != 0) {
-        w->bad = true;
-        return 0;
-    }
-    w->at += n;
-    return signed_number(w, INT64_MAX);
 }
 
 static int hex_digit(char c)
@@ -187,29 +174,12 @@ static struct sinezhab_message message(struct words *w)
 {
     struct sinezhab_message m = { 0 };
     m.kind = (uint8_t)number(w, UINT8_MAX);
-    if (m.kind != 0 && m.kind != 1 && m.kind != 8 && m.kind != 9 && m.kind != 11 && m.kind != 12) w->bad = true;
+    if (m.kind != 0 && m.kind != 1 && m.kind != 8 && m.kind != 9 && m.kind != 11) w->bad = true;
     m.header = header(w);
-    if (m.kind != 12) m.stamp = stamp(w);
-    if (m.kind == 9 || m.kind == 12) m.requester = port(w); /* of a Signaling it is the target */
+    m.stamp = stamp(w);
+    if (m.kind == 9) m.requester = port(w);
     if (m.kind == 11) m.offer = offer(w);
     return m;
-}
-
-/* By its type: what it does not have is no word. */
-static struct sinezhab_tlv tlv(struct words *w)
-{
-    struct sinezhab_tlv t = { 0 };
-    t.type = (uint16_t)number(w, UINT16_MAX);
-    if (t.type < 4 || 7 < t.type) w->bad = true;
-    t.message = (uint8_t)number(w, UINT8_MAX);
-    t.low = (uint8_t)number(w, UINT8_MAX);
-    if (t.type < 6) {
-        t.interval = (int8_t)signed_number(w, INT8_MAX);
-        t.seconds = (uint32_t)number(w, UINT32_MAX);
-    }
-    if (t.type > 4) t.reserved = (uint8_t)number(w, UINT8_MAX);
-    if (t.type == 5) t.renewal = (uint8_t)number(w, UINT8_MAX);
-    return t;
 }
 
 static struct sinezhab_given given(struct words *w)
@@ -220,7 +190,6 @@ static struct sinezhab_given given(struct words *w)
     g.domain = (uint8_t)number(w, UINT8_MAX);
     g.own = port(w);
     for (size_t i = 0; i < sizeof rest / sizeof *rest; i++) *rest[i] = signed_number(w, INT64_MAX);
-    if (!w->over) g.unicast = named_number(w, "unicast=");
     return g;
 }
 
@@ -263,28 +232,11 @@ static void put_message(const struct sinezhab_message *m)
 {
     printf("message kind=%u", m->kind);
     put_header(&m->header);
-    if (m->kind == 12) printf(" target=%016" PRIx64 "-%u", m->requester.clock, m->requester.number);
-    else printf(" seconds=%" PRIu64 " nanos=%" PRIu32, m->stamp.seconds, m->stamp.nanoseconds);
+    printf(" seconds=%" PRIu64 " nanos=%" PRIu32, m->stamp.seconds, m->stamp.nanoseconds);
     if (m->kind == 9) printf(" requesting=%016" PRIx64 "-%u", m->requester.clock, m->requester.number);
     if (m->kind == 11) put_offer(&m->offer);
     printf(" suffix=");
     put_octets(octets + m->from, m->to - m->from);
-}
-
-static void put_tlv(const struct sinezhab_tlv *t)
-{
-    printf("found place=%zu type=%u message=%u low=%u", t->place, t->type, t->message, t->low);
-    if (t->type < 6) printf(" interval=%d seconds=%" PRIu32, t->interval, t->seconds);
-    if (t->type > 4) printf(" reserved=%u", t->reserved);
-    if (t->type == 5) printf(" renewal=%u", t->renewal);
-    printf(" behind=%zu\n", t->behind);
-}
-
-/* A grant that runs, or that none does. */
-static void put_grant(const char *name, uint32_t seconds, uint64_t at)
-{
-    if (seconds) printf(" %s=%" PRIu32 "@%" PRIu64, name, seconds, at);
-    else printf(" %s=-", name);
 }
 
 static void put_master(const struct sinezhab_answer *a)
@@ -342,7 +294,7 @@ static const char *const plain[] = {
     [SINEZHAB_ANSWER_TICK_BACK] = "back wiped",
     [SINEZHAB_ANSWER_RANGE] = "range wiped",
     [SINEZHAB_ANSWER_JUMP] = "jump wiped",
-    [SINEZHAB_ANSWER_SIGNALED] = "signaled",
+    [SINEZHAB_ANSWER_SHOWS] = NULL,
 };
 
 static void put_answer(const struct sinezhab_answer *a)
@@ -370,8 +322,6 @@ static struct {
     uint16_t sequence;
     struct sinezhab_stamp stamp; /* of an arrival, or t3 */
     int64_t reference, clock;
-    struct sinezhab_tlv tlv;
-    size_t from;
     size_t count; /* of octets, or of records */
     size_t room;  /* of the part or the frame */
 } asked;
@@ -380,7 +330,7 @@ static struct sinezhab_answer answer;
 
 static void unit_words(struct words *w) { asked.given = given(w); }
 
-/* A refused `unit` line leaves the unit that was there. A fresh table, watch and grants are zeros. */
+/* A refused `unit` line leaves the unit that was there. A fresh table and a fresh watch are zeros. */
 static void play_unit(void)
 {
     struct sinezhab_made made = sinezhab_make(asked.given);
@@ -393,7 +343,6 @@ static void play_unit(void)
     desk.servo = made.servo;
     memset(&desk.watch, 0, sizeof desk.watch);
     memset(desk.table, 0, sizeof desk.table);
-    memset(&desk.grants, 0, sizeof desk.grants);
     puts("ok");
 }
 
@@ -433,38 +382,6 @@ static void play_write(void)
     put_octets(part, asked.room);
 }
 
-static void walk_words(struct words *w)
-{
-    asked.count = some_octets(w);
-    asked.from = (size_t)number(w, UINT32_MAX);
-}
-
-static void play_walk(void)
-{
-    struct sinezhab_tlv t = sinezhab_walk(octets, asked.count, asked.from);
-    if (t.refused) put_refused(t.refused, NULL, 0);
-    else if (t.found) put_tlv(&t);
-    else puts("found none");
-}
-
-static void tlv_words(struct words *w)
-{
-    asked.tlv = tlv(w);
-    asked.room = (size_t)number(w, ROOM);
-}
-
-static void play_tlv(void)
-{
-    memset(part, BEFORE, asked.room);
-    struct sinezhab_written done = sinezhab_tlv(asked.tlv, part, asked.room);
-    if (done.refused) {
-        put_refused(done.refused, part, asked.room);
-        return;
-    }
-    printf("wrote ");
-    put_octets(part, asked.room);
-}
-
 static void receive_words(struct words *w)
 {
     asked.now = number(w, UINT64_MAX);
@@ -474,8 +391,7 @@ static void receive_words(struct words *w)
 
 static void play_receive(void)
 {
-    sinezhab_receive(&desk.unit, &desk.servo, desk.table, desk.lent, &desk.watch, &desk.grants, octets, asked.count, asked.now, asked.stamp,
-                     &answer);
+    sinezhab_receive(&desk.unit, &desk.servo, desk.table, desk.lent, &desk.watch, octets, asked.count, asked.now, asked.stamp, &answer);
     put_answer(&answer);
 }
 
@@ -550,23 +466,6 @@ static void play_show(void)
     put_answer(&answer);
 }
 
-/* At the now that the unit shows. */
-static void play_grants(void)
-{
-    struct sinezhab_shown s = { 0 };
-    sinezhab_show(&desk.unit, &desk.servo, &answer);
-    printf("grants");
-    s = sinezhab_grants(desk.grants, answer.now, s);
-    if (!s.some) printf(" none");
-    for (; s.some; s = sinezhab_grants(desk.grants, answer.now, s)) {
-        printf(" %016" PRIx64 "-%u", s.clock, s.number);
-        put_grant("announce", s.announce, s.announced);
-        put_grant("sync", s.sync, s.synced);
-        put_grant("resp", s.response, s.responded);
-    }
-    putchar('\n');
-}
-
 static const struct call {
     const char *name;
     bool unit; /* it needs one */
@@ -577,8 +476,6 @@ static const struct call {
     { "lend", false, lend_words, play_lend },
     { "read", false, read_words, play_read },
     { "write", false, write_words, play_write },
-    { "walk", false, walk_words, play_walk },
-    { "tlv", false, tlv_words, play_tlv },
     { "receive", true, receive_words, play_receive },
     { "request", true, request_words, play_request },
     { "sent", true, sent_words, play_sent },
@@ -587,7 +484,6 @@ static const struct call {
     { "tick", true, tick_words, play_tick },
     { "line", true, no_words, play_line },
     { "show", true, no_words, play_show },
-    { "grants", true, no_words, play_grants },
 };
 
 static const struct call *named(struct word name)

@@ -2,16 +2,14 @@
  *
  * Which call when. Each is told in full at its declaration, and examples/loop.c is a main loop to start from.
  *
- *     make      once, with the settings: it gives a fresh unit and its servo. A fresh table, watch and grants are all zeros
- *     receive   every PTP message that has come, with the stamp of its arrival; Signaling too, whether unicast is set or not
+ *     make      once, with the settings: it gives a fresh unit and its servo. A fresh table and a fresh watch are all zeros
+ *     receive   every PTP message that has come, with the stamp of its arrival
  *     time      once a second or so, whatever else comes: it alone notices that the master has fallen silent
  *     request   once a Sync has its t1; send the frame
  *     sent      as soon as the hardware gives the stamp t3 of that frame's departure
  *     tick      at every second pulse, with its two stamps
  *     line      when somebody wants the drift
  *     show      when somebody wants to know how the unit does
- *     grants    when somebody wants to know which unicast grants run, or whether it is time to ask for new ones
- *     walk, tlv to look into the TLVs of a Signaling, and to write the request for a grant into one (`write` makes the message)
  *     reset     when the operator says so; it alone ends FAULTY
  *     then      after every call that was not refused, set the clock's rate to servo.output: ppb, positive slows it, a wipe has made it 0
  *
@@ -24,8 +22,8 @@
  * - No pointer to a struct is null, and each is aligned as its type asks: 8 octets. Octets, a suffix, a part, a frame or a table of
  *   length 0 may have any pointer.
  * - Nothing that is lent to one call overlaps anything else that is lent to it.
- * - Unit, servo, table, watch and grants are lent as the call before left them: the grants to every `receive`, and to nothing else that
- *   changes them. Any octets in them are answered without harm, but only these have the answers that are proved.
+ * - Unit, servo, table and watch are lent as the call before left them. Any octets in them are answered without harm, but only these
+ *   have the answers that are proved.
  * - Stack, from the call on: 2,048 octets for receive and time, 1,024 for every other call (docs/COST.md has the figures).
  * - Calls use the xmm registers, and the red zone, which is the 128 octets below the stack pointer. An interrupt handler or a kernel
  *   that makes a call saves the xmm registers around it; whatever interrupts a call on its own stack steps over the red zone.
@@ -36,7 +34,7 @@
  * - Local stamps, t2 of a Sync and t3 of a request, are handed over in the order in which they were taken. One below the last wipes.
  *
  * Nothing else: no value of any argument is a mistake, it is answered or refused. A refusal gives its number only: unit, servo, table,
- * watch, grants, part and frame are then as before, octet by octet. */
+ * watch, part and frame are then as before, octet by octet. */
 #ifndef SINEZHAB_H
 #define SINEZHAB_H
 
@@ -55,7 +53,7 @@ extern "C" {
 #endif
 
 /* Major, minor and patch: 16, 8 and 8 bits. Another major number means other structs or calls. */
-#define SINEZHAB_VERSION 0x00030000u
+#define SINEZHAB_VERSION 0x00020000u
 
 uint32_t sinezhab_version(void);                                        /* of the library: SINEZHAB_VERSION where the two belong together */
 
@@ -63,8 +61,8 @@ uint32_t sinezhab_version(void);                                        /* of th
 enum sinezhab_refusal {
     SINEZHAB_REFUSAL_SHORT = 1,  /* too few octets for a header, or for messageLength */
     SINEZHAB_REFUSAL_VERSION,    /* version is not 2 */
-    SINEZHAB_REFUSAL_KIND,       /* none of the six kinds, or a Delay_Req handed to the unit; none of the four types of unicast TLV */
-    SINEZHAB_REFUSAL_LENGTH,     /* messageLength is less than the kind needs, or too long to be written; a unicast TLV of a wrong length */
+    SINEZHAB_REFUSAL_KIND,       /* none of the five kinds, or a Delay_Req handed to the unit */
+    SINEZHAB_REFUSAL_LENGTH,     /* messageLength is less than the kind needs, or too long to be written */
     SINEZHAB_REFUSAL_FIELD,      /* a stamp or a four-bit field out of its range */
     SINEZHAB_REFUSAL_SUFFIX,     /* what stands behind the fixed part is no row of even TLVs */
     SINEZHAB_REFUSAL_ROOM,       /* the message does not fit into what is lent */
@@ -75,29 +73,25 @@ enum sinezhab_refusal {
     SINEZHAB_REFUSAL_ALTERNATE,  /* an Announce of an alternate master */
     SINEZHAB_REFUSAL_STEPS,      /* an Announce from 255 steps away, or more */
     SINEZHAB_REFUSAL_REPEAT,     /* the sequenceId of this live sender's last Announce */
-    SINEZHAB_REFUSAL_FULL,       /* a new sender, and all five places are live, of the table or of the grants */
+    SINEZHAB_REFUSAL_FULL,       /* a new sender, and all five places are live */
     SINEZHAB_REFUSAL_NOT_MASTER, /* from another than the master, or there is none */
     SINEZHAB_REFUSAL_UNMATCHED,  /* nothing waits for it */
     SINEZHAB_REFUSAL_FAULTY,     /* a call of the exchange while the unit is faulty */
     SINEZHAB_REFUSAL_CORRECTION, /* a correction of a second or more */
     SINEZHAB_REFUSAL_TICK,       /* a stamp of a pulse is negative, or 2^62 or more */
-    SINEZHAB_REFUSAL_NOT_READY,  /* the line is not due */
-    SINEZHAB_REFUSAL_TARGET = 25, /* a Signaling that is neither for the own port nor for all */
-    SINEZHAB_REFUSAL_GRANT       /* unicast is set, and the sender's grant that it needs does not run */
+    SINEZHAB_REFUSAL_NOT_READY   /* the line is not due */
 };
 
-/* The state: place it where you like. Unit, record, watch and grants are not to be looked into; the servo may be read. */
+/* The state: place it where you like. Unit, record and watch are not to be looked into; the servo may be read. */
 
 #define SINEZHAB_TABLE 5
 #define SINEZHAB_UNIT_SIZE 208
 #define SINEZHAB_RECORD_SIZE 96
 #define SINEZHAB_WATCH_SIZE 1680
-#define SINEZHAB_GRANTS_SIZE 240
 
 struct sinezhab_unit { uint64_t storage[SINEZHAB_UNIT_SIZE / 8]; };
 struct sinezhab_record { uint64_t storage[SINEZHAB_RECORD_SIZE / 8]; }; /* of one master: the table is five of them, zeros at first */
 struct sinezhab_watch { uint64_t storage[SINEZHAB_WATCH_SIZE / 8]; };   /* zeros at first */
-struct sinezhab_grants { uint64_t storage[SINEZHAB_GRANTS_SIZE / 8]; }; /* zeros at first; no wipe and no reset ends a grant */
 
 struct sinezhab_ten { int32_t offsets[10]; uint64_t count; };           /* in ns, the newest first; how many are held */
 
@@ -120,7 +114,6 @@ struct sinezhab_given {                                                 /* the s
     int64_t window, minimum, holdoff;                                   /* samples: 2 to 128, 2 to window, 0 to 10 */
     int64_t tolerance, spike;                                           /* ns: 0 to 100,000,000, 1 to 999,999,998 */
     int64_t jump;                                                       /* ns: over spike, to 999,999,999 */
-    int64_t unicast;                                                    /* 0, or 1: Announce, Sync, Follow_Up, Delay_Resp need a grant */
 };
 
 struct sinezhab_made {
@@ -158,8 +151,7 @@ enum sinezhab_answer_code {
     SINEZHAB_ANSWER_RANGE,       /* y of a second or more: wiped */
     SINEZHAB_ANSWER_JUMP,        /* y over jump from the previous: wiped */
     SINEZHAB_ANSWER_LINE,        /* (line, wipes) the drift line */
-    SINEZHAB_ANSWER_SHOWS,       /* (port, servo, output, now, master, wipes, sequence) */
-    SINEZHAB_ANSWER_SIGNALED     /* a Signaling was acted on: its grants and cancels stand */
+    SINEZHAB_ANSWER_SHOWS        /* (port, servo, output, now, master, wipes, sequence) */
 };
 
 enum sinezhab_port_state { SINEZHAB_PORT_FAULTY, SINEZHAB_PORT_LISTENING, SINEZHAB_PORT_UNCALIBRATED, SINEZHAB_PORT_SLAVE };
@@ -195,11 +187,10 @@ struct sinezhab_answer {
 
 /* A message without its Ethernet header, and the stamp of its arrival, which of a Sync is t2 and of others is not looked at. What is
  * refused, in this order: 1 to 6, what can't be read; 3, a Delay_Req; 8, a table of another count than 5; then what its kind may be
- * refused with. An Announce is answered CHOSE or CHANGED, a Sync HELD or BACK, a Follow_Up PAIRED, a Delay_Resp MEASURED to STEP, a
- * Signaling SIGNALED. Only a Signaling changes the grants, and it acts on all its unicast TLVs or, refused, on none. */
+ * refused with. An Announce is answered CHOSE or CHANGED, a Sync HELD or BACK, a Follow_Up PAIRED, a Delay_Resp MEASURED to STEP. */
 void sinezhab_receive(struct sinezhab_unit *unit, struct sinezhab_servo *servo, struct sinezhab_record *table, size_t count,
-                      struct sinezhab_watch *watch, struct sinezhab_grants *grants, const uint8_t *octets, size_t length, uint64_t now,
-                      struct sinezhab_stamp arrival, struct sinezhab_answer *answer);
+                      struct sinezhab_watch *watch, const uint8_t *octets, size_t length, uint64_t now, struct sinezhab_stamp arrival,
+                      struct sinezhab_answer *answer);
 
 /* Time goes on: CHOSE or CHANGED. */
 void sinezhab_time(struct sinezhab_unit *unit, struct sinezhab_servo *servo, struct sinezhab_record *table, size_t count,
@@ -227,20 +218,6 @@ void sinezhab_line(struct sinezhab_unit *unit, struct sinezhab_watch *watch, str
 /* What the unit shows: SHOWS. Never refused, changes nothing. */
 void sinezhab_show(struct sinezhab_unit *unit, struct sinezhab_servo *servo, struct sinezhab_answer *answer);
 
-/* A sender with a unicast grant running. Of each grant its seconds, 0 where none runs, and the now at which it was granted. */
-struct sinezhab_shown {
-    uint64_t clock;                                                     /* of the sender, and its port's number */
-    uint64_t announced, synced, responded;                              /* ms */
-    uint32_t announce, sync, response;                                  /* seconds */
-    uint16_t number;
-    uint8_t some;                                                       /* 0: there is none, and all else is 0 */
-    uint8_t spare;
-};
-
-/* The next sender with a grant running at `now`, in rising order of clock and number: the first after zeros, else the first above the
- * one that was shown last. Of that one `some`, `clock` and `number` are looked at. Never refused. */
-struct sinezhab_shown sinezhab_grants(struct sinezhab_grants grants, uint64_t now, struct sinezhab_shown last);
-
 /* Messages by themselves: no unit is asked, and the loop above needs none of it. */
 
 struct sinezhab_header {
@@ -266,10 +243,10 @@ struct sinezhab_offer {                                                 /* what 
 
 struct sinezhab_message {
     uint8_t refused;                                                    /* 0, or why there is no message: then all else is 0 */
-    uint8_t kind;                                                       /* 0 Sync, 1 Delay_Req, 8 Follow_Up, 9 Delay_Resp, 11 Announce, */
-    struct sinezhab_header header;                                      /* 12 Signaling */
-    struct sinezhab_stamp stamp;                                        /* of kind 12 zeros, and not looked at in writing */
-    struct sinezhab_port requester;                                     /* of kind 9; of kind 12 the target; else zeros */
+    uint8_t kind;                                                       /* 0 Sync, 1 Delay_Req, 8 Follow_Up, 9 Delay_Resp, 11 Announce */
+    struct sinezhab_header header;
+    struct sinezhab_stamp stamp;
+    struct sinezhab_port requester;                                     /* of kind 9, else zeros */
     struct sinezhab_offer offer;                                        /* of kind 11, else zeros */
     size_t from, to;                                                    /* the TLV suffix is octets[from] to octets[to - 1] of those read */
 };
@@ -283,30 +260,6 @@ struct sinezhab_message sinezhab_read(const uint8_t *octets, size_t length);
  * with `refused` set is none, and refused with 3. */
 struct sinezhab_written sinezhab_write(struct sinezhab_message message, const uint8_t *suffix, size_t count, uint8_t *part, size_t room);
 
-/* A unicast TLV: 4 asks for a grant, 5 grants, 6 cancels, 7 acknowledges a cancel. What a type does not have is 0. */
-struct sinezhab_tlv {
-    size_t place, behind;                                               /* where it begins and where the next one does; not looked at in writing */
-    uint32_t seconds;                                                   /* of types 4 and 5: for how long */
-    uint16_t type;                                                      /* 4 to 7 */
-    uint8_t refused;                                                    /* 0, or why the walk found none: then all else is 0 */
-    uint8_t found;                                                      /* 0: there is none from there on; not looked at in writing */
-    uint8_t message, low;                                               /* the kind of message, 0 to 15, and the other four bits beside it */
-    int8_t interval;                                                    /* of types 4 and 5: the log of the interval in s */
-    uint8_t reserved;                                                   /* of types 5, 6 and 7 */
-    uint8_t renewal;                                                    /* of type 5 */
-    uint8_t gap;
-    uint16_t spare;
-};
-
-/* The first unicast TLV from the place `from` on, of octets that stand behind a message's fixed part: octets[from] to octets[to - 1] of
- * a Signaling that was read. Go on at `behind`. Refused: 6, what is no whole TLV of even length; 4, a unicast TLV of a wrong length; each
- * up to the one found. */
-struct sinezhab_tlv sinezhab_walk(const uint8_t *octets, size_t length, size_t from);
-
-/* The unicast TLV into the lent part; octets past `length` keep their values. Refused: 3, another type, or a TLV with `refused` set; 5,
- * message or low over 15; 7, no room: 10, 12, 6 and 6 octets are needed. */
-struct sinezhab_written sinezhab_tlv(struct sinezhab_tlv tlv, uint8_t *part, size_t room);
-
 /* The layout that libdoor.a was made for; door/layout.c asks the library. */
 #if defined(__cplusplus) && __cplusplus >= 201103L
 #define SINEZHAB_HOLDS(name, condition) static_assert(condition, #name)
@@ -319,16 +272,13 @@ struct sinezhab_written sinezhab_tlv(struct sinezhab_tlv tlv, uint8_t *part, siz
 SINEZHAB_HOLDS(unit, sizeof(struct sinezhab_unit) == SINEZHAB_UNIT_SIZE);
 SINEZHAB_HOLDS(record, sizeof(struct sinezhab_record) == SINEZHAB_RECORD_SIZE);
 SINEZHAB_HOLDS(watch, sizeof(struct sinezhab_watch) == SINEZHAB_WATCH_SIZE);
-SINEZHAB_HOLDS(grants, sizeof(struct sinezhab_grants) == SINEZHAB_GRANTS_SIZE);
 SINEZHAB_HOLDS(servo, sizeof(struct sinezhab_servo) == 64 && offsetof(struct sinezhab_servo, output) == 56);
 SINEZHAB_HOLDS(stamp, sizeof(struct sinezhab_stamp) == 16 && sizeof(struct sinezhab_port) == 16);
-SINEZHAB_HOLDS(given, sizeof(struct sinezhab_given) == 120 && offsetof(struct sinezhab_given, announce) == 24);
+SINEZHAB_HOLDS(given, sizeof(struct sinezhab_given) == 112 && offsetof(struct sinezhab_given, announce) == 24);
 SINEZHAB_HOLDS(made, sizeof(struct sinezhab_made) == 280 && offsetof(struct sinezhab_made, servo) == 216);
 SINEZHAB_HOLDS(answer, sizeof(struct sinezhab_answer) == 104 && offsetof(struct sinezhab_answer, line) == 64);
 SINEZHAB_HOLDS(message, sizeof(struct sinezhab_message) == 136 && offsetof(struct sinezhab_message, from) == 120);
 SINEZHAB_HOLDS(written, sizeof(struct sinezhab_written) == 16 && offsetof(struct sinezhab_written, length) == 8);
-SINEZHAB_HOLDS(shown, sizeof(struct sinezhab_shown) == 48 && offsetof(struct sinezhab_shown, some) == 46);
-SINEZHAB_HOLDS(tlv, sizeof(struct sinezhab_tlv) == 32 && offsetof(struct sinezhab_tlv, refused) == 22);
 #undef SINEZHAB_HOLDS
 
 #ifdef __cplusplus

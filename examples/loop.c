@@ -16,12 +16,11 @@
 #include <stdio.h>
 #include <string.h>
 
-/* All state of the core; fresh table, watch and grants are zeros, as static memory is. */
+/* All state of the core; a fresh table and a fresh watch are zeros, as static memory is. */
 static struct sinezhab_unit unit;
 static struct sinezhab_servo servo;
 static struct sinezhab_record table[SINEZHAB_TABLE];
 static struct sinezhab_watch watch;
-static struct sinezhab_grants grants;
 static struct sinezhab_answer answer; /* of the last call */
 
 static uint64_t now;          /* ms: read when a call is made, so that it never goes back */
@@ -57,7 +56,6 @@ static void act(void)
     case SINEZHAB_ANSWER_LONG:
     case SINEZHAB_ANSWER_PATH: say("measurement dropped"); break;
     case SINEZHAB_ANSWER_VALID: break;
-    case SINEZHAB_ANSWER_SIGNALED: say("grants as a Signaling says"); break;
     case SINEZHAB_ANSWER_INVALID: say("pulse marked invalid"); break;
     default: say("wiped"); /* BACK, PATH_WIPED, WIPED, and a pulse's TICK_BACK, RANGE, JUMP */
     }
@@ -68,7 +66,7 @@ static void act(void)
 
 static void frame(const uint8_t *octets, size_t length, struct sinezhab_stamp arrival)
 {
-    sinezhab_receive(&unit, &servo, table, SINEZHAB_TABLE, &watch, &grants, octets, length, now, arrival, &answer);
+    sinezhab_receive(&unit, &servo, table, SINEZHAB_TABLE, &watch, octets, length, now, arrival, &answer);
     /* The answer to a request can be here before the stamp of its departure: it is kept and handed over again behind that. */
     if (answer.refused == SINEZHAB_REFUSAL_UNMATCHED && (octets[0] & 15) == 9 && length <= sizeof early)
         memmove(early, octets, length), early_length = length;

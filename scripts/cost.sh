@@ -58,7 +58,7 @@ count() {
 compile -fno-builtin -fno-tree-vectorize -fno-tree-loop-distribute-patterns -c "$cost/plain.c" -o "$work/plain.o"
 compile -std=c11 -Wall -Wextra -Idoor -I"$cost" "$cost/ours.c" "$work/plain.o" "$LIB" $link -o "$work/ours"
 echo "## Instructions of the door"
-count "$work/ours" "$LIB" sinezhab_{read,write,make,receive,time,request,sent,reset,tick,line,show,grants} | tee "$work/ours.table"
+count "$work/ours" "$LIB" sinezhab_{read,write,make,receive,time,request,sent,reset,tick,line,show} | tee "$work/ours.table"
 
 # linuxptp's own table
 theirs() {

@@ -1,5 +1,5 @@
 #!/usr/bin/env bash
-# Says whether the walks of crates door, door_receiving and door_leaving, and the files that they share, are what scripts/walks/walk.py writes, or writes them anew.
+# Says whether the walks of crates door and door_leaving, and the files that they share, are what scripts/walks/walk.py writes, or writes them anew.
 # Usage: scripts/walks.sh [--write]
 # Needs the kit (rt, or what RT names) and python3. Status 1 where a walk is another. What target/ has proved is not proved again.
 set -euo pipefail
@@ -9,26 +9,24 @@ work=$(mktemp -d)
 plain=$(mktemp -d)
 trap 'rm -rf "$work" "$plain"' EXIT
 mkdir -p "$work/crates" "$plain/crates/door" target
-cp -r crates/door crates/door_receiving crates/door_leaving crates/door_walk "$work/crates/"
+cp -r crates/door crates/door_leaving crates/door_walk "$work/crates/"
 
-# The MIR of all crates that have walks, as of one, with the others as modules of it: so it is to be had before any is proved.
+# The MIR of both crates that have walks, as of one, with the other as a module of it: so it is to be had before either is proved.
 ln -s "$PWD/target" "$plain/"
 for folder in crates/*; do
   [ "$folder" = crates/door ] || ln -s "$PWD/$folder" "$plain/crates/"
 done
 cp -r crates/door/src "$plain/crates/door/"
-for name in door_leaving door_receiving; do
-  sed 's/^    door_leaving::/    crate::door_leaving::/; s/^        door_leaving::/        crate::door_leaving::/' "crates/$name/src/lib.rt" >"$plain/crates/door/src/$name.rt"
-  echo "mod $name;" >>"$plain/crates/door/src/lib.rt"
-done
-sed '/^door:/s/ door_\(walk\|leaving\|receiving\)\b//g' crates.txt >"$plain/crates.txt"
+cp crates/door_leaving/src/lib.rt "$plain/crates/door/src/door_leaving.rt"
+echo 'mod door_leaving;' >>"$plain/crates/door/src/lib.rt"
+sed '/^door:/s/ door_\(walk\|leaving\)\b//g' crates.txt >"$plain/crates.txt"
 (cd "$plain" && "${RT:-rt}" mir door) >"$work/mir" 2>"$work/log" || { cat "$work/log" >&2; exit 1; }
-sed -i 's/"door::door_\(leaving\|receiving\)::/"door_\1::/g' "$work/mir"
+sed -i 's/"door::door_leaving::/"door_leaving::/g' "$work/mir"
 
 python3 scripts/walks/walk.py "$work/mir" "$work/crates" scripts/walks/*.cfg
 cp crates.txt "$work/"
 (cd "$work" && "${RT:-rt}" fmt >/dev/null)
-for name in door door_receiving door_leaving door_walk; do
+for name in door door_leaving door_walk; do
   if [ $# = 1 ]; then
     cp -r "$work/crates/$name/proofs/." "crates/$name/proofs/"
   elif ! diff -rq "crates/$name/proofs" "$work/crates/$name/proofs"; then
@@ -36,4 +34,4 @@ for name in door door_receiving door_leaving door_walk; do
     exit 1
   fi
 done
-echo "walks: $(ls scripts/walks/*.cfg | wc -l) of the door; its proofs have $(find crates/door/proofs crates/door_receiving/proofs crates/door_leaving/proofs crates/door_walk/proofs -name '*.antt' -exec cat {} + | wc -l) lines"
+echo "walks: $(ls scripts/walks/*.cfg | wc -l) of the door; its proofs have $(find crates/door/proofs crates/door_leaving/proofs crates/door_walk/proofs -name '*.antt' -exec cat {} + | wc -l) lines"

@@ -57,6 +57,3 @@ try minimum_one_too_low rules_watch rules_settings \
 try steps_of_254 rules_masters demands \
   rules_masters/src/admission.rt 'if 255 <= announce.offer.steps' 'if 254 <= announce.offer.steps' \
   rules_masters/specs/Admitting.antt 'leb 255 (m .offer .steps)' 'leb 254 (m .offer .steps)'
-try follow_up_under_announce unit_granting demands \
-  unit_granting/src/lib.rt 'Body::FollowUp(_) => !grants.runs(sender, Service::Sync, now)' 'Body::FollowUp(_) => !grants.runs(sender, Service::Announce, now)' \
-  unit_granting/specs/Granting.antt 'lacksBy runs (bodies.FollowUp t) = not (runs Sync)' 'lacksBy runs (bodies.FollowUp t) = not (runs Announce)'

@@ -16,14 +16,13 @@ struct hall {
     struct sinezhab_servo servo;
     struct sinezhab_watch watch;
     struct sinezhab_record table[SINEZHAB_TABLE];
-    struct sinezhab_grants grants;
     uint64_t now, second;
     uint16_t sequence;
 };
 
 /* A message as it comes. */
 struct frame {
-    uint8_t octets[80];
+    uint8_t octets[64];
     size_t length;
     struct sinezhab_stamp arrival;
 };
@@ -52,8 +51,7 @@ static void need(bool holds, const char *what)
 static void receive(struct hall *h, const char *name, struct frame f, unsigned code)
 {
     CALL(name, code,
-         sinezhab_receive(&h->unit, &h->servo, h->table, SINEZHAB_TABLE, &h->watch, &h->grants, f.octets, f.length, h->now, f.arrival,
-                          &answer));
+         sinezhab_receive(&h->unit, &h->servo, h->table, SINEZHAB_TABLE, &h->watch, f.octets, f.length, h->now, f.arrival, &answer));
 }
 
 static void pass(struct hall *h, const char *name, unsigned code)
@@ -275,61 +273,6 @@ static void count_watch(const struct hall *work)
     need(answer.line.n == 128, "line");
 }
 
-/* Unicast. A Signaling of one of five senders for us, with a grant for each of the three services; `seconds` 0 denies them. */
-static struct frame granted(unsigned sender, uint8_t seconds)
-{
-    static const uint8_t kinds[3] = { 11, 0, 9 };
-    struct frame f = { .length = 80 };
-    memcpy(f.octets, announce, 34);
-    f.octets[0] = 12;
-    f.octets[2] = 0;
-    f.octets[3] = 80;
-    f.octets[27] += (uint8_t)sender;
-    memset(f.octets + 34, 255, 10); /* for all */
-    for (unsigned i = 0; i < 3; i++) {
-        uint8_t *t = f.octets + 44 + 12 * i;
-        t[1] = 5;
-        t[3] = 8;
-        t[4] = (uint8_t)(kinds[i] << 4);
-        t[9] = seconds;
-    }
-    return f;
-}
-
-/* The same states with unicast set, and five senders with all grants: the master, and the Announce's sender, in the last of the five places. */
-static void count_unicast(const struct hall *work, const struct hall *alike)
-{
-    struct hall h = *work, g;
-    measure_nine(&h, false);
-    for (unsigned i = 0; i < 5; i++) receive(&h, i == 4 ? "receive: Signaling, a new sender's three grants" : NULL, granted((i + 1) % 5, 200), SINEZHAB_ANSWER_SIGNALED);
-    receive(&h, "receive: Signaling, three grants renewed", granted(0, 255), SINEZHAB_ANSWER_SIGNALED);
-    g = h;
-    receive(&g, "receive: Signaling, refused (15, a sixth sender)", granted(5, 1), SINEZHAB_ANSWER_REFUSED);
-    need(answer.refused == SINEZHAB_REFUSAL_FULL, "full");
-    h.unit.settings.unicast = 1;
-    receive(&h, "unicast, receive: Announce", announced(&h, 0, 100), SINEZHAB_ANSWER_CHOSE);
-    h.second++;
-    h.now += 1000;
-    struct frame f = exchanged(sync, sizeof sync, (uint16_t)h.second, 0, 0);
-    f.arrival = (struct sinezhab_stamp){ h.second, 500010270 };
-    receive(&h, "unicast, receive: Sync", f, SINEZHAB_ANSWER_HELD);
-    receive(&h, "unicast, receive: Follow_Up", exchanged(follow_up, sizeof follow_up, (uint16_t)h.second, h.second, 500000000), SINEZHAB_ANSWER_PAIRED);
-    request(&h, NULL);
-    uint16_t own = answer.sequence;
-    sent(&h, NULL, own, (struct sinezhab_stamp){ h.second, 750010270 });
-    receive(&h, "unicast, receive: Delay_Resp, measured", exchanged(delay_resp, sizeof delay_resp, own, h.second, 750020500), SINEZHAB_ANSWER_MEASURED);
-    h.now += 300000;
-    receive(&h, "unicast, receive: Sync, refused (26, no grant runs)", exchanged(sync, sizeof sync, 1, 0, 0), SINEZHAB_ANSWER_REFUSED);
-    need(answer.refused == SINEZHAB_REFUSAL_GRANT, "grant");
-    h = *alike;
-    for (unsigned i = 0; i < 5; i++) receive(&h, NULL, granted(i, 200), SINEZHAB_ANSWER_SIGNALED);
-    h.unit.settings.unicast = 1;
-    receive(&h, "unicast, receive: Announce, identities decide, last place", announced(&h, 4, 100), SINEZHAB_ANSWER_CHOSE);
-    struct sinezhab_shown shown = { 0 };
-    COUNT("grants, the first of five", shown = sinezhab_grants(h.grants, h.now, shown));
-    need(shown.some, "grants");
-}
-
 int main(void)
 {
     struct hall work = at_work(120, 1), alike = at_work(120, 0);
@@ -338,6 +281,5 @@ int main(void)
     count_masters(&work, &alike);
     count_exchange(&work);
     count_watch(&work);
-    count_unicast(&work, &alike);
     return 0;
 }

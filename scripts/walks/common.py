@@ -12,25 +12,18 @@ def leaves(left, answer, table=False):
     return ' × '.join('({z%d} ≡ %s .%s)' % (j, left, part) for j, part in [*enumerate(parts), (answer, 'answer')])
 
 
-ANNOUNCE = leaves('announcedIn {0} {1} {2} {3} {4} {5} {6}', 7, table=True)
+ANNOUNCE = leaves('announcedIn {0} {1} {2} {3} {4} {5}', 6, table=True)
 HOLD = leaves('lentBy {0} {1} [] {2} {3}', 4)
-MEASURE = leaves('heardIn {0} {1} [] {2} {3} {4} {5} {6}', 7)
+MEASURE = leaves('heardIn {0} {1} [] {2} {3} {4} {5}', 6)
 SENT = leaves('sentOf {0} {1} {2} {3} {4} {5}', 6)
 PULSE = leaves('tickOf {0} {1} {2} {3} {4}', 5)
-
-# What those of crate door_receiving say.
-LACKS = '({p} ≡ lacks_in {0} {1} {2} {3}) × ({z1} ≡ {1})'
-HEEDED = 'signaledIn {0} {1} {2} {3} {4} {5}'
-SIGNAL = f'({{z0}} ≡ with_state {{0}} ({HEEDED} .state)) × ({{z1}} ≡ {HEEDED} .grants) × ({{z2}} ≡ {{2}}) × ({{z6}} ≡ answered_of ({HEEDED} .number) ({HEEDED} .barred))'
-RECEIVED = 'receiveOf {0} {1} {2} {3} {4} {5} {6} {7}'
-MESSAGE = ' × '.join('({z%d} ≡ %s .%s)' % (j, RECEIVED, part) for j, part in [(8, 'answer'), (0, 'unit'), (1, 'servo'), (2, 'table'), (3, 'watch')]) + ' × ({z4} ≡ grants_after {0} {2} {4} {5} {6}) × ({z5} ≡ {5})'
 
 # An export that is nothing but the call of one of them: its clauses begin with the answer.
 LAST = '({e0} .3, {e0} .0, {e0} .1, {e0} .2)'
 
 # What the callees say that a message of the exchange and `sent` have in common.
 TELLS = {
-  'untold': 'refusing (numberOf ({0} .refusal))',
+  'untold': 'refusing ({0} .number)',
   'steer': 'servoAfter {1} {0} {2} {3} {4}',
   'say': 'outputSaid {0} {1} {2} {3} {4}',
   'empty': EMPTY,

@@ -66,7 +66,7 @@ module _ {MODULE} (W : Given 𝓤 H A) (at-mem : Memory → SProp 𝓤) (run : R
   abbrev Post : Val → SProp 𝓤
   Post = walkOf 𝓤 H A this.ended stayed (this.clauses 𝓤 H A at-mem run) .post bound
 '''
-    if p.table and 'table' in w.config:
+    if p.table:
         length, size, n = w.config['table']['len'], w.config['table']['size'], f'(length h{p.table})'
         yield f'''  is-N : Holds (not (not (eqb {n} {length}))) → {n} ≡ {length}
   is-N good = rows-are {n} {length} good

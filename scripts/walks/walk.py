@@ -19,7 +19,7 @@
 #     specs            the lines `use ..` that SPEC and says need. The types are imported as SName, so Seated is SSeated.Seated
 #     says             one term for each return, in the MIR's order (that of the refusal first): proves the ensures. {p0}, {e0} are the result of the first call in the MIR and its equation `p0 ≡ SPEC ..`;
 #                      h1, h2, .. the parameters (for what is lent: its value at entry); `bad` in the refusal, and `good` after it, say what the length's test said; `is-N good : length h ≡ N`
-#     table            where there is one whose length is tested: len, its length; size, bytes of an element (of C's layout); none, an element that is the default of getD
+#     table            where there is one: len, its length; size, bytes of an element (of C's layout); none, an element that is the default of getD
 #     index            one term for each local that is a computed place, in the MIR's order: that it is less than len
 # Signs of integers and names of fields, that MIR has not, are read from the crates' source.
 # mir.py reads the MIR, kinds.py has the types, context.py the state of the walk, statements.py and lending.py (calls that lend on) the statements, frame.py the file of a walk, shared.py the files

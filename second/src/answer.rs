@@ -1,10 +1,8 @@
 //! The answers of the bench's page and their text.
 
-use crate::grants::{Running, Sender};
-use crate::message::{Identity, Message, DELAY_RESP, SIGNALING};
+use crate::message::{Identity, Message, DELAY_RESP};
 use crate::refusal::Refusal;
 use crate::text::hex;
-use crate::tlv::Found;
 use crate::watch::Line;
 use std::fmt;
 
@@ -34,9 +32,6 @@ pub enum Answer {
     JumpWiped,
     Line { line: Line, wipes: i128 },
     Shown(Shown),
-    Found(Option<Found>),
-    Signaled,
-    Grants(Vec<Sender>),
 }
 
 /// What `show` tells.
@@ -72,8 +67,6 @@ impl fmt::Display for Answer {
             Answer::JumpWiped => write!(out, "jump wiped"),
             Answer::Line { line, wipes } => write_line(line, *wipes, out),
             Answer::Shown(shown) => write_shown(shown, out),
-            Answer::Found(found) => write_found(found.as_ref(), out),
-            Answer::Grants(senders) => write_grants(senders, out),
             received => write_received(received, out),
         }
     }
@@ -87,7 +80,6 @@ fn write_received(answer: &Answer, out: &mut fmt::Formatter) -> fmt::Result {
         }
         Answer::Held => write!(out, "held"),
         Answer::Paired => write!(out, "paired"),
-        Answer::Signaled => write!(out, "signaled"),
         Answer::Measured { delay, used, offset, output } => {
             write!(out, "measured delay={delay} used={used} offset={offset} output={output}")
         }
@@ -120,8 +112,8 @@ fn master_text(master: Option<Identity>) -> String {
 fn write_message(message: &Message, out: &mut fmt::Formatter) -> fmt::Result {
     write!(out, "message")?;
     for (field, value) in message.each() {
-        // The two fields of a port identity in a body are written as one.
-        if ["requesting", "target"].iter().any(|name| field.name.starts_with(name)) {
+        // The two fields of a Delay_Resp's body are written as one.
+        if field.name.starts_with("requesting") {
             continue;
         }
         if field.clock {
@@ -133,35 +125,7 @@ fn write_message(message: &Message, out: &mut fmt::Formatter) -> fmt::Result {
     if message.kind() == DELAY_RESP {
         write!(out, " requesting={}", identity_text(message.requesting()))?;
     }
-    if message.kind() == SIGNALING {
-        write!(out, " target={}", identity_text(message.target()))?;
-    }
     write!(out, " suffix={}", hex(&message.suffix))
-}
-
-fn write_found(found: Option<&Found>, out: &mut fmt::Formatter) -> fmt::Result {
-    let Some(Found { place, tlv, behind }) = found else {
-        return write!(out, "found none");
-    };
-    write!(out, "found place={place} type={}", tlv.kind)?;
-    for (field, value) in tlv.each() {
-        write!(out, " {}={value}", field.name)?;
-    }
-    write!(out, " behind={behind}")
-}
-
-/// D@N: seconds and the now of a grant.
-fn running_text(running: Option<Running>) -> String {
-    running.map_or(String::from("-"), |(seconds, at)| format!("{seconds}@{at}"))
-}
-
-fn write_grants(senders: &[Sender], out: &mut fmt::Formatter) -> fmt::Result {
-    write!(out, "grants{}", mark(senders.is_empty(), " none"))?;
-    for (sender, services) in senders {
-        let [announce, sync, resp] = services.map(running_text);
-        write!(out, " {} announce={announce} sync={sync} resp={resp}", identity_text(*sender))?;
-    }
-    Ok(())
 }
 
 fn write_line(line: &Line, wipes: i128, out: &mut fmt::Formatter) -> fmt::Result {

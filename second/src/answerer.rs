@@ -5,7 +5,6 @@ use crate::call::{parse, Call};
 use crate::message;
 use crate::refusal::Refusal;
 use crate::text::passed_over;
-use crate::tlv;
 use crate::unit::Unit;
 use std::io::{self, BufRead, Write};
 
@@ -49,11 +48,6 @@ impl Answerer {
                 let mut lent = vec![BEFORE; room];
                 message::write(&message, &mut lent).map(|()| Answer::Wrote(lent))
             }
-            Call::Walk { octets, from } => tlv::walk(&octets, from).map(Answer::Found),
-            Call::Tlv { tlv, room } => {
-                let mut lent = vec![BEFORE; room];
-                tlv::write(&tlv, &mut lent).map(|()| Answer::Wrote(lent))
-            }
             // A refused `unit` line leaves the unit that was there.
             Call::Unit(settings) => Unit::fresh(settings).map(|unit| {
                 self.unit = Some(unit);
@@ -78,7 +72,6 @@ fn unit_call(unit: &mut Unit, lent: usize, call: Call) -> Result<Answer, Refusal
         Call::Tick { reference, clock } => unit.tick(reference, clock),
         Call::Line => unit.line(),
         Call::Show => Ok(unit.show()),
-        Call::Grants => Ok(unit.grants()),
         other => unreachable!("{other:?} is no call of a unit"),
     }
 }

@@ -1,10 +1,8 @@
 //! The calls of the bench's page and how a line is read as one of them.
 
-use crate::field::Field;
 use crate::message::{fields, fixed_length, Message};
 use crate::settings::Settings;
 use crate::text::{self, Range, I64, U16, U32, U64, U8};
-use crate::tlv::{self, Tlv};
 
 /// A stamp as the caller gives it: seconds may be over 48 bits, nanoseconds over a second.
 #[derive(Clone, Copy, Debug, PartialEq)]
@@ -19,8 +17,6 @@ pub enum Call {
     Lend(usize),
     Read(Vec<u8>),
     Write { message: Message, room: usize },
-    Walk { octets: Vec<u8>, from: usize },
-    Tlv { tlv: Tlv, room: usize },
     Receive { now: i128, stamp: Stamp, octets: Vec<u8> },
     Request { now: i128, length: usize },
     Sent { now: i128, sequence: i128, stamp: Stamp },
@@ -29,7 +25,6 @@ pub enum Call {
     Tick { reference: i128, clock: i128 },
     Line,
     Show,
-    Grants,
 }
 
 /// The call that a line is, or none where it is a bad line.
@@ -42,8 +37,6 @@ pub fn parse(line: &[u8]) -> Option<Call> {
         "lend" => Call::Lend(words.number(&(0..=8))? as usize),
         "read" => Call::Read(words.octets()?),
         "write" => write(&mut words)?,
-        "walk" => walk(&mut words)?,
-        "tlv" => unicast_tlv(&mut words)?,
         "receive" => receive(&mut words)?,
         "request" => request(&mut words)?,
         "sent" => sent(&mut words)?,
@@ -52,7 +45,6 @@ pub fn parse(line: &[u8]) -> Option<Call> {
         "tick" => tick(&mut words)?,
         "line" => Call::Line,
         "show" => Call::Show,
-        "grants" => Call::Grants,
         _ => return None,
     };
     // A word too many is a bad line too.
@@ -81,27 +73,6 @@ impl<'a> Words<'a> {
         text::octets(self.next()?)
     }
 
-    /// The word of a field.
-    fn field(&mut self, field: &Field) -> Option<i128> {
-        if field.clock {
-            self.clock()
-        } else {
-            self.number(&field.word())
-        }
-    }
-
-    fn room(&mut self) -> Option<usize> {
-        self.number(&(0..=70_000)).map(|room| room as usize)
-    }
-
-    /// The word `name=value` behind the others, 0 where there is none.
-    fn optional(&mut self, name: &str) -> Option<i128> {
-        let Some(word) = self.next() else {
-            return Some(0);
-        };
-        text::number(word.strip_prefix(name)?.strip_prefix('=')?, &I64)
-    }
-
     fn stamp(&mut self) -> Option<Stamp> {
         Some(Stamp { seconds: self.number(&U64)?, nanos: self.number(&U32)? })
     }
@@ -123,7 +94,6 @@ fn unit(words: &mut Words) -> Option<Settings> {
         tolerance: words.number(&I64)?,
         spike: words.number(&I64)?,
         jump: words.number(&I64)?,
-        unicast: words.optional("unicast")?,
     })
 }
 
@@ -131,21 +101,19 @@ fn write(words: &mut Words) -> Option<Call> {
     let kind = text::number(words.0.first()?, &U8)?;
     // "`write` with any other kind is answered `bad line`."
     fixed_length(kind)?;
-    let values = fields(kind).map(|field| words.field(field)).collect::<Option<Vec<i128>>>()?;
+    let value = |field: &crate::message::Field| {
+        if field.clock {
+            words.clock()
+        } else {
+            words.number(&field.word())
+        }
+    };
+    let values = fields(kind).map(value).collect::<Option<Vec<i128>>>()?;
     let suffix = words.octets()?;
-    Some(Call::Write { message: Message::from_values(values, suffix), room: words.room()? })
-}
-
-fn walk(words: &mut Words) -> Option<Call> {
-    Some(Call::Walk { octets: words.octets()?, from: words.number(&U32)? as usize })
-}
-
-fn unicast_tlv(words: &mut Words) -> Option<Call> {
-    let kind = words.number(&U16)?;
-    // A type that is none of the four is a bad line.
-    let fields = tlv::fields(kind)?.iter();
-    let values = fields.map(|field| words.field(field)).collect::<Option<Vec<i128>>>()?;
-    Some(Call::Tlv { tlv: Tlv::from_values(kind, values), room: words.room()? })
+    Some(Call::Write {
+        message: Message::from_values(values, suffix),
+        room: words.number(&(0..=70_000))? as usize,
+    })
 }
 
 fn receive(words: &mut Words) -> Option<Call> {

@@ -2,7 +2,7 @@
 //!
 //!     second answer                             answers a list of calls, standard input to output
 //!     second list NAME                          writes a list: wire, masters, exchange, watch, card,
-//!                                               unicast, whole (these six and four random ones),
+//!                                               whole (these five and four random ones),
 //!                                               stored, sequence, hour
 //!     second list random SEED COUNT             writes a random list of COUNT calls
 //!     second compare PROGRAM SEED LISTS COUNT   runs LISTS random lists of COUNT calls through

@@ -1,21 +1,56 @@
-//! The six message kinds: the table of their fields, reading and writing.
+//! The five message kinds: the table of their fields, reading and writing.
 
-use crate::field::{four, identity, octets, signed, Field};
 use crate::refusal::{refuse, Refusal};
-use crate::tlv;
+use crate::text::Range;
 
 pub const SYNC: i128 = 0;
 pub const DELAY_REQ: i128 = 1;
 pub const FOLLOW_UP: i128 = 8;
 pub const DELAY_RESP: i128 = 9;
 pub const ANNOUNCE: i128 = 11;
-pub const SIGNALING: i128 = 12;
 
 /// Octets of the header.
 pub const HEADER: usize = 34;
 
-/// The header (rule 2.2), in the order of the bench's words.
-static COMMON: [Field; 13] = [
+/// One field: a run of bits in the message, counted from the highest bit of octet 0.
+pub struct Field {
+    /// The bench's word for it.
+    pub name: &'static str,
+    first: usize,
+    bits: usize,
+    /// How many bits its word's type has; for most fields as many as in the message.
+    word: usize,
+    signed: bool,
+    /// Written as 16 hex digits, not as a number.
+    pub clock: bool,
+}
+
+const fn octets(name: &'static str, first: usize, count: usize) -> Field {
+    Field { name, first: 8 * first, bits: 8 * count, word: 8 * count, signed: false, clock: false }
+}
+
+const fn signed(name: &'static str, first: usize, count: usize) -> Field {
+    Field { signed: true, ..octets(name, first, count) }
+}
+
+const fn identity(name: &'static str, first: usize) -> Field {
+    Field { clock: true, ..octets(name, first, 8) }
+}
+
+/// The high or the low four bits of an octet; as a word it is a u8.
+const fn four(name: &'static str, first: usize, low: bool) -> Field {
+    Field {
+        name,
+        first: 8 * first + if low { 4 } else { 0 },
+        bits: 4,
+        word: 8,
+        signed: false,
+        clock: false,
+    }
+}
+
+/// Header and timestamp (rules 2.2 and 2.4), in the order of the bench's words.
+static COMMON: [Field; 15] = [
     four("kind", 0, true),
     four("sdo", 0, false),
     four("minor", 1, false),
@@ -29,11 +64,9 @@ static COMMON: [Field; 13] = [
     octets("sequence", 30, 2),
     octets("control", 32, 1),
     signed("interval", 33, 1),
+    Field { word: 64, ..octets("seconds", 34, 6) },
+    octets("nanos", 40, 4),
 ];
-
-/// What stands behind the header: the timestamp (rule 2.4), in a Signaling its target (rule 2.18).
-static STAMP: [Field; 2] = [Field { word: 64, ..octets("seconds", 34, 6) }, octets("nanos", 40, 4)];
-static TARGET: [Field; 2] = [identity("target clock", 34), octets("target port", 42, 2)];
 
 /// The two fields of the header that are derived and no field of a read message.
 static VERSION: Field = four("version", 1, true);
@@ -54,13 +87,12 @@ static ANNOUNCED: [Field; 10] = [
     octets("source", 63, 1),
 ];
 
-/// Fixed length of a kind and its fields behind the header, in two parts (rules 2.5 to 2.7 and 2.18).
-fn kind_row(kind: i128) -> Option<(usize, [&'static [Field]; 2])> {
+/// Fixed length of a kind and its fields after the timestamp (rules 2.5 to 2.7).
+fn kind_row(kind: i128) -> Option<(usize, &'static [Field])> {
     match kind {
-        SYNC | DELAY_REQ | FOLLOW_UP => Some((44, [&STAMP, &[]])),
-        DELAY_RESP => Some((54, [&STAMP, &RESPONSE])),
-        ANNOUNCE => Some((64, [&STAMP, &ANNOUNCED])),
-        SIGNALING => Some((44, [&TARGET, &[]])),
+        SYNC | DELAY_REQ | FOLLOW_UP => Some((44, &[])),
+        DELAY_RESP => Some((54, &RESPONSE)),
+        ANNOUNCE => Some((64, &ANNOUNCED)),
         _ => None,
     }
 }
@@ -72,8 +104,49 @@ pub fn fixed_length(kind: i128) -> Option<usize> {
 
 /// All fields of a kind of the table, in the order of the bench's words.
 pub fn fields(kind: i128) -> impl Iterator<Item = &'static Field> {
-    let [first, body] = kind_row(kind).map_or([&[][..]; 2], |(_, parts)| parts);
-    COMMON.iter().chain(first).chain(body)
+    let body = kind_row(kind).map_or(&[][..], |(_, body)| body);
+    COMMON.iter().chain(body)
+}
+
+fn range(signed: bool, bits: usize) -> Range {
+    let all = 1_i128 << bits;
+    if signed {
+        -(all / 2)..=all / 2 - 1
+    } else {
+        0..=all - 1
+    }
+}
+
+impl Field {
+    /// What its bits in the message can hold.
+    pub fn holds(&self) -> Range {
+        range(self.signed, self.bits)
+    }
+
+    /// What its word in the bench's text can hold.
+    pub fn word(&self) -> Range {
+        range(self.signed, self.word)
+    }
+
+    fn cut(&self, octets: &[u8]) -> i128 {
+        let bit = |place: usize| i128::from(octets[place / 8] >> (7 - place % 8) & 1);
+        let places = self.first..self.first + self.bits;
+        let value = places.fold(0, |value, place| 2 * value + bit(place));
+        if value > *self.holds().end() {
+            value - (1 << self.bits)
+        } else {
+            value
+        }
+    }
+
+    fn lay(&self, value: i128, octets: &mut [u8]) {
+        for place in 0..self.bits {
+            let bit = (value >> (self.bits - 1 - place) & 1) as u8;
+            let at = self.first + place;
+            let mask = 0x80 >> (at % 8);
+            octets[at / 8] = octets[at / 8] & !mask | (bit * mask);
+        }
+    }
 }
 
 /// A message: a value for each field of its kind, in the table's order, and its TLVs.
@@ -140,16 +213,6 @@ impl Message {
         Identity::new(self.get("requesting clock"), self.get("requesting port"))
     }
 
-    /// The target port identity of a Signaling.
-    pub fn target(&self) -> Identity {
-        Identity::new(self.get("target clock"), self.get("target port"))
-    }
-
-    /// Whether its nanoseconds are a second or more; a Signaling has none.
-    fn overflows(&self) -> bool {
-        self.each().any(|(field, value)| field.name == "nanos" && value >= 1_000_000_000)
-    }
-
     /// The timestamp at 34-43, in nanoseconds.
     pub fn timestamp(&self) -> i128 {
         self.get("seconds") * 1_000_000_000 + self.get("nanos")
@@ -174,9 +237,6 @@ impl Message {
 pub struct Identity(i128);
 
 impl Identity {
-    /// Ten octets of ones: everybody's.
-    pub const ALL: Identity = Identity((1 << 80) - 1);
-
     pub fn new(clock: i128, port: i128) -> Identity {
         Identity(clock * 65_536 + port)
     }
@@ -203,21 +263,34 @@ pub fn read(octets: &[u8]) -> Result<Message, Refusal> {
     let octets = &octets[..length];
     let values = fields(kind).map(|field| field.cut(octets)).collect();
     let message = Message::from_values(values, octets[fixed..].to_vec());
-    refuse(message.overflows(), Refusal::Field)?;
-    refuse(!tlv::whole(&message.suffix), Refusal::Suffix)?;
+    refuse(message.get("nanos") >= 1_000_000_000, Refusal::Field)?;
+    refuse(!whole_tlvs(&message.suffix), Refusal::Suffix)?;
     Ok(message)
 }
 
 /// Writes a message into the lent part, or refuses it by the order of rule 3.53.
 pub fn write(message: &Message, lent: &mut [u8]) -> Result<(), Refusal> {
     let fits = |(field, value): (&Field, i128)| field.holds().contains(&value);
-    refuse(message.overflows() || !message.each().all(fits), Refusal::Field)?;
-    refuse(!tlv::whole(&message.suffix), Refusal::Suffix)?;
+    let nanos = message.get("nanos") >= 1_000_000_000;
+    refuse(nanos || !message.each().all(fits), Refusal::Field)?;
+    refuse(!whole_tlvs(&message.suffix), Refusal::Suffix)?;
     let length = message.fixed() + message.suffix.len();
     refuse(length > 65_535, Refusal::Length)?;
     refuse(lent.len() < length, Refusal::Room)?;
     lent[..length].copy_from_slice(&message.octets());
     Ok(())
+}
+
+/// Whether octets are a row of whole TLVs (rule 2.8).
+fn whole_tlvs(mut rest: &[u8]) -> bool {
+    while let [_, _, high, low, behind @ ..] = rest {
+        let length = usize::from(*high) * 256 + usize::from(*low);
+        if length % 2 == 1 || length > behind.len() {
+            return false;
+        }
+        rest = &behind[length..];
+    }
+    rest.is_empty()
 }
 
 #[cfg(test)]
@@ -226,13 +299,40 @@ mod tests {
 
     #[test]
     fn the_fields_of_a_kind_and_the_two_derived_ones_fill_it_without_overlap() {
-        for kind in [SYNC, DELAY_REQ, FOLLOW_UP, DELAY_RESP, ANNOUNCE, SIGNALING] {
+        for kind in [SYNC, DELAY_REQ, FOLLOW_UP, DELAY_RESP, ANNOUNCE] {
             let mut owners = vec![0; 8 * fixed_length(kind).unwrap()];
             for field in fields(kind).chain([&VERSION, &LENGTH]) {
                 (field.first..field.first + field.bits).for_each(|bit| owners[bit] += 1);
             }
             assert!(owners.iter().all(|count| *count == 1), "kind {kind}");
         }
+    }
+
+    #[test]
+    fn a_field_comes_back_as_it_was_laid() {
+        for field in fields(ANNOUNCE).skip(1) {
+            for value in [*field.holds().start(), *field.holds().end(), 1] {
+                let mut octets = vec![0x55; 64];
+                field.lay(value, &mut octets);
+                assert_eq!(field.cut(&octets), value, "{}", field.name);
+            }
+        }
+    }
+
+    #[test]
+    fn tlvs_are_whole_and_even() {
+        let good: [&[u8]; 5] =
+            [&[], &[0, 1, 0, 0], &[0, 1, 0, 2, 9, 9], &[0, 1, 0, 0, 0, 1, 0, 2, 9, 9], &[0xff; 0]];
+        let bad: [&[u8]; 6] = [
+            &[0],
+            &[0, 1, 0],
+            &[0, 1, 0, 1, 9],
+            &[0, 1, 0, 2, 9],
+            &[0, 1, 0, 0, 9, 9],
+            &[0, 1, 0, 1, 9, 0],
+        ];
+        assert!(good.iter().all(|suffix| whole_tlvs(suffix)));
+        assert!(!bad.iter().any(|suffix| whole_tlvs(suffix)));
     }
 
     #[test]

@@ -19,12 +19,10 @@ pub struct Settings {
     pub tolerance: i128,
     pub spike: i128,
     pub jump: i128,
-    /// 1 where messages need a grant (rule 13.9).
-    pub unicast: i128,
 }
 
 impl Settings {
-    /// Refusal 8, by the ranges of rules 4.1 to 4.13 and 4.15.
+    /// Refusal 8, by the ranges of rules 4.1 to 4.13.
     pub fn check(&self) -> Result<(), Refusal> {
         let ranges = [
             (self.announce, 0..=4),
@@ -38,7 +36,6 @@ impl Settings {
             (self.tolerance, 0..=100_000_000),
             (self.spike, 1..=999_999_998),
             (self.jump, self.spike + 1..=999_999_999),
-            (self.unicast, 0..=1),
         ];
         let inside = ranges.iter().all(|(value, range)| range.contains(value));
         refuse(!inside, Refusal::Settings)

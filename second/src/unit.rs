@@ -3,14 +3,11 @@
 use crate::answer::{Answer, Shown};
 use crate::call::Stamp;
 use crate::exchange::{Exchange, Finished};
-use crate::grants::Grants;
 use crate::masters::Table;
-use crate::message::{self, Identity, Message};
-use crate::message::{ANNOUNCE, DELAY_REQ, FOLLOW_UP, SIGNALING, SYNC};
+use crate::message::{self, Identity, Message, ANNOUNCE, DELAY_REQ, FOLLOW_UP, SYNC};
 use crate::refusal::{refuse, Refusal};
 use crate::servo::Servo;
 use crate::settings::Settings;
-use crate::tlv;
 use crate::watch::{self, Pulse, Watch};
 
 /// Octets of Ethernet header before a message.
@@ -41,8 +38,6 @@ pub struct Unit {
     requests: i128,
     /// How many wipes there were: shown as the remainder by 2^32.
     wipes: i128,
-    /// They outlive every wipe (rule 13.10).
-    grants: Grants,
     since: SinceWipe,
 }
 
@@ -69,7 +64,6 @@ impl Unit {
             faulty: false,
             requests: 0,
             wipes: 0,
-            grants: Grants::default(),
             since: SinceWipe::default(),
         })
     }
@@ -90,36 +84,16 @@ impl Unit {
             ANNOUNCE => self.announce(now, message),
             SYNC => self.sync(now, stamp, &message),
             FOLLOW_UP => self.follow_up(now, &message),
-            SIGNALING => self.signaling(now, &message),
             _ => self.response(now, &message),
         }
     }
 
-    /// A Signaling: 9, 10, 25, 4, 15. It sets now and makes no choice anew (rule 13.12).
-    fn signaling(&mut self, now: i128, message: &Message) -> Answered {
-        refuse(now < self.now, Refusal::Now)?;
-        refuse(message.get("domain") != self.settings.domain, Refusal::Domain)?;
-        let for_us = [self.settings.own(), Identity::ALL].contains(&message.target());
-        refuse(!for_us, Refusal::Target)?;
-        let tlvs = tlv::all(&message.suffix)?;
-        self.grants.hear(message.sender(), now, &tlvs)?;
-        self.now = now;
-        Ok(Answer::Signaled)
-    }
-
-    /// 26: with unicast set, the sender's grant for this service has to run (rule 13.9).
-    fn check_grant(&self, now: i128, message: &Message, service: i128) -> Result<(), Refusal> {
-        let running = self.grants.running(message.sender(), service, now);
-        refuse(self.settings.unicast == 1 && running.is_none(), Refusal::Grant)
-    }
-
-    /// An Announce: 9 to 12, 26, 13 to 15, one after the other (rule 3.56).
+    /// An Announce: 9 to 15, one after the other (rule 3.56).
     fn announce(&mut self, now: i128, message: Message) -> Answered {
         refuse(now < self.now, Refusal::Now)?;
         refuse(message.get("domain") != self.settings.domain, Refusal::Domain)?;
         refuse(message.get("clock") == self.settings.clock, Refusal::Own)?;
         refuse(flag(&message, ALTERNATE), Refusal::Alternate)?;
-        self.check_grant(now, &message, ANNOUNCE)?;
         refuse(message.get("steps") >= 255, Refusal::Steps)?;
         self.table.admit(message, now)?;
         Ok(self.choose(now))
@@ -144,15 +118,12 @@ impl Unit {
         Answer::Chosen { master, wiped }
     }
 
-    /// 9, 18, 10, 16, 26, 19 of a message of the exchange.
+    /// 9, 18, 10, 16, 19 of a message of the exchange.
     fn check_message(&self, now: i128, message: &Message) -> Result<(), Refusal> {
         refuse(now < self.now, Refusal::Now)?;
         refuse(self.faulty, Refusal::Faulty)?;
         refuse(message.get("domain") != self.settings.domain, Refusal::Domain)?;
         refuse(self.chosen != Some(message.sender()), Refusal::NotMaster)?;
-        // A Follow_Up goes with its Sync.
-        let kind = message.kind();
-        self.check_grant(now, message, if kind == FOLLOW_UP { SYNC } else { kind })?;
         let beyond = message.get("correction").abs() >= 65_536_000_000_000;
         refuse(beyond, Refusal::Correction)
     }
@@ -310,11 +281,6 @@ impl Unit {
             wipes: self.wipe_count(),
             sequence: self.requests % 65_536,
         })
-    }
-
-    /// The grants that run at the unit's now.
-    pub fn grants(&self) -> Answer {
-        Answer::Grants(self.grants.shown(self.now))
     }
 
     fn port_state(&self) -> &'static str {

@@ -31,7 +31,7 @@ fn it_answers_a_list() {
 
 #[test]
 fn it_writes_lists() {
-    for name in ["wire", "masters", "exchange", "watch", "card", "unicast", "whole", "stored"] {
+    for name in ["wire", "masters", "exchange", "watch", "card", "whole", "stored"] {
         assert!(second(&["list", name], b"").stdout == second::lists::named(name).unwrap());
     }
     let random = second(&["list", "random", "7", "30"], b"").stdout;

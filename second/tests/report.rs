@@ -40,25 +40,6 @@ fn the_example_of_two_halls() {
     }
 }
 
-/// Refusals whose numbers do not follow on one another have their names, and the new calls count.
-#[test]
-fn the_example_of_unicast() {
-    let path = concat!(env!("CARGO_MANIFEST_DIR"), "/../examples/unicast.txt");
-    let list = std::fs::read(path).unwrap();
-    let page = page("unicast.txt", &list);
-    check(&page);
-    for part in [
-        "<td>21</td><td>NOT_READY</td><td>1</td>",
-        "<td>26</td><td>GRANT</td><td>5</td>",
-        "<td>grants</td><td>5</td>",
-        "<td>walk</td><td>4</td>",
-        "By cause: new master 1, reset 1.",
-        "6 taken, 6 in the window, 6 valid; slope 50.0 ns/s",
-    ] {
-        assert!(page.contains(part), "{part}");
-    }
-}
-
 #[test]
 fn lists_with_nothing_to_draw() {
     for list in ["", "# nothing\n", "show\nbad\n", "unit 1 2 3\n", "read -\n"] {

@@ -9,9 +9,9 @@ use std::process::Command;
 const SECOND: &str = env!("CARGO_BIN_EXE_second");
 
 /// What answers a list; the rest of this program makes lists and compares.
-const PARTS: [&str; 16] = [
-    "answer", "answerer", "call", "exchange", "field", "grants", "masters", "message", "nearest",
-    "refusal", "servo", "settings", "text", "tlv", "unit", "watch",
+const PARTS: [&str; 13] = [
+    "answer", "answerer", "call", "exchange", "masters", "message", "nearest", "refusal", "servo",
+    "settings", "text", "unit", "watch",
 ];
 
 fn here() -> &'static Path {
@@ -110,22 +110,6 @@ fn x_over_valid_samples_only() {
     let (told, list) = caught("numbers_valid_samples");
     assert!(told.contains("another answer"), "{told}");
     assert!(calls(&list).len() <= 5, "{list}");
-}
-
-/// Settings, a Signaling with one grant, a wipe and the question what runs.
-#[test]
-fn a_wipe_that_ends_grants() {
-    let (told, list) = caught("wipe_ends_grants");
-    assert!(told.contains("none of them can be left out"), "{told}");
-    assert!(calls(&list).len() <= 4, "{list}");
-}
-
-/// Settings, a Signaling with a grant and a TLV of a wrong length, and the question what runs.
-#[test]
-fn half_of_a_refused_signaling() {
-    let (told, list) = caught("half_is_kept");
-    assert!(told.contains("another answer"), "{told}");
-    assert!(calls(&list).len() <= 3, "{list}");
 }
 
 /// Settings, two Announces, ten measurements of four calls, a wipe and one measurement. It can't be

@@ -174,6 +174,5 @@ pub fn answer_text(out: &mut Out, at: usize, answer: Answer, frame: &[u8]) -> us
         Answer::Wiped => text(out, at, b"wiped"),
         Answer::Line(line, wipes) => line_text(out, at, line, wipes),
         Answer::Shows(shows) => shows_text(out, at, shows),
-        Answer::Signaled => text(out, at, b"signaled"),
     }
 }

@@ -1,7 +1,7 @@
 -- Whether a line asks the unit that is there.
 use Rattle.std.specs.Prelude.{Bool, true, false}
 use Rattle.bench_asks.specs.declared.Asks.{Asks}
-use Rattle.bench_asks.specs.declared.Asks.TheVariants.{Bad, NoUnit, Refused, Make, Request, Unit, Grants}
+use Rattle.bench_asks.specs.declared.Asks.TheVariants.{Bad, NoUnit, Refused, Make, Request, Unit}
 
 abbrev pub asks_unit : Asks → Bool
 asks_unit Bad = false
@@ -10,4 +10,3 @@ asks_unit (Refused r) = false
 asks_unit (Make settings) = false
 asks_unit (Request now length) = true
 asks_unit (Unit asked) = true
-asks_unit Grants = true

@@ -16,7 +16,6 @@ pub enum Asks {
     Make(Settings),
     Request(u64, usize), // now, and the octets of the frame to lend
     Unit(Asked), // any other
-    Grants, // which of them run
 }
 
 // The first n octets, or all where there are fewer.
@@ -51,7 +50,6 @@ fn asks_unit(lent: u8, call: ToUnit, octets: &[u8]) -> Asks {
         ToUnit::Reset => plain(UnitCall::Reset),
         ToUnit::Tick(reference, clock) => plain(UnitCall::Tick(reference, clock)),
         ToUnit::Line => plain(UnitCall::Line),
-        ToUnit::Grants => Asks::Grants,
         _ => plain(UnitCall::Show),
     }
 }

@@ -1,5 +1,5 @@
 // The fields of a message as words of a line.
-use bench_words::{
+use crate::words::{
     NOWHERE, identity, signed8, signed16, signed64, unsigned8, unsigned16, unsigned32, unsigned64,
 };
 use numbers::stamp::Stamp;
@@ -121,22 +121,8 @@ fn offer_words(s: &[u8], at: usize) -> OfferWords {
     }
 }
 
-// The kind says which words follow the header's. A Signaling has its target in place of the timestamp, and nothing behind it.
-pub(crate) fn body_words(s: &[u8], at: usize, kind: u8) -> BodyWords {
-    if kind == kinds::Signaling::KIND {
-        let words = port_words(s, at);
-        let target = words.port;
-        return BodyWords {
-            body: Body::Signaling(target),
-            next: words.next,
-        };
-    }
-    let words = stamp_words(s, at);
-    stamped_words(s, words.next, kind, words.stamp)
-}
-
-// What follows the timestamp. Of any other kind there is no message.
-fn stamped_words(s: &[u8], at: usize, kind: u8, stamp: Stamp) -> BodyWords {
+// The kind says which words follow the timestamp. Of any other kind there is no message.
+pub(crate) fn body_words(s: &[u8], at: usize, kind: u8, stamp: Stamp) -> BodyWords {
     match kind {
         kinds::Sync::KIND => BodyWords {
             body: Body::Sync(stamp),

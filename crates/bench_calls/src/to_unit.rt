@@ -2,10 +2,9 @@
 ghost use Rattle.std.specs.Prelude.{◌≤◌};
 ghost use Rattle.bench_calls.specs.Held.{held_by_unit};
 
+use crate::Store;
 use crate::fields::{port_words, stamp_words};
-use bench_words::{
-    Store, begins, named_signed64, number, octets_at, signed64, unsigned8, unsigned16, unsigned64,
-};
+use crate::words::{begins, number, octets_at, signed64, unsigned8, unsigned16, unsigned64};
 use numbers::stamp::Stamp;
 use rules_settings::Given;
 
@@ -23,10 +22,9 @@ pub enum ToUnit {
     Tick(i64, i64),
     Line,
     Show,
-    Grants,
 }
 
-// The settings in the line's order. Behind the last come those that may be left out, in the order in which the page names them.
+// The settings in the line's order.
 fn unit(s: &[u8], at: usize) -> ToUnit
     ensures { held_by_unit result ≤ 131_072 }
 {
@@ -43,8 +41,7 @@ fn unit(s: &[u8], at: usize) -> ToUnit
     let tolerance = signed64(s, holdoff.next);
     let spike = signed64(s, tolerance.next);
     let jump = signed64(s, spike.next);
-    let unicast = named_signed64(s, jump.next, b" unicast=", 0);
-    if unicast.next == s.len() {
+    if jump.next == s.len() {
         let port = own.port;
         return ToUnit::Make(Given {
             domain: domain.value,
@@ -60,7 +57,6 @@ fn unit(s: &[u8], at: usize) -> ToUnit
             tolerance: tolerance.value,
             spike: spike.value,
             jump: jump.value,
-            unicast: unicast.value,
         });
     }
     ToUnit::None
@@ -167,9 +163,6 @@ fn short_call(s: &[u8]) -> ToUnit
     }
     if begins(s, b"show") {
         return alone(s, 4, ToUnit::Show);
-    }
-    if begins(s, b"grants") {
-        return alone(s, 6, ToUnit::Grants);
     }
     ToUnit::None
 }

@@ -1,13 +1,11 @@
 // The desk: what is kept from line to line, and what is answered to each call.
 ghost use Rattle.std.specs.Prelude.{◌≡◌, ◌≤◌};
 
-use bench_answers::answer_text;
-use bench_asks::{Asks, asks_of};
-use bench_calls::Call;
+use bench_answers::{answer_text, refused};
+use bench_asks::{Asks, asks_of, front};
+use bench_calls::{Call, Store};
+use bench_messages::{read, write};
 use bench_text::{Out, text};
-use bench_unasked::{other_answer, unasked};
-use bench_unicast::granted::grants_text;
-use bench_words::Store;
 use rules_settings::Settings;
 use unit::{Stepped, Unit, request_into};
 use unit_handing::serve;
@@ -26,6 +24,29 @@ fn frame_length(length: usize) -> usize
     ensures { result ≤ 2000 }
 {
     if length <= 2000 { length } else { 2000 }
+}
+
+// What is answered where the unit is not asked.
+fn unasked(out: &mut Out, at: usize, asks: Asks) -> usize
+    ensures { result ≤ 65_536 }
+{
+    match asks {
+        Asks::Refused(refusal) => refused(out, at, refusal),
+        Asks::NoUnit => text(out, at, b"no unit"),
+        _ => text(out, at, b"bad line"),
+    }
+}
+
+// What is answered to a call that needs no unit.
+fn other_answer(out: &mut Out, at: usize, call: Call, octets: &Store) -> usize
+    ensures { result ≤ 65_536 }
+{
+    match call {
+        Call::Lend(_) => text(out, at, b"ok"),
+        Call::Read(n) => read(out, at, front(octets, n)),
+        Call::Write(m, n, room) => write(out, at, m, front(octets, n), room),
+        _ => text(out, at, b"bad line"),
+    }
 }
 
 // How many records of the table are lent after the call.
@@ -85,10 +106,6 @@ impl Desk {
             }
             Asks::Request(now, length) => self.requests(out, now, length),
             Asks::Unit(asked) => self.hears(out, serve(self.unit, asked), b""),
-            Asks::Grants => {
-                self.at = grants_text(out, self.at, self.unit.core.now, self.unit.grants);
-                self
-            }
             _ => {
                 self.at = unasked(out, self.at, asks);
                 self

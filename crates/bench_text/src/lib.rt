@@ -96,7 +96,7 @@ pub fn signed_field64(out: &mut Out, at: usize, name: &[u8], n: i64) -> usize
     decimal(out, behind, u64::MAX - bits + 1)
 }
 
-pub fn signed_field8(out: &mut Out, at: usize, name: &[u8], n: i8) -> usize
+pub(crate) fn signed_field8(out: &mut Out, at: usize, name: &[u8], n: i8) -> usize
     ensures { result ≤ 65_536 }
 {
     signed_field64(out, at, name, n as i64)

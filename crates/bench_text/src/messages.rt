@@ -68,20 +68,10 @@ fn offer_text(out: &mut Out, at: usize, o: Offer) -> usize
     field8(out, end, b" source=", o.time)
 }
 
-// What stands in the place of the timestamp.
-fn time_text(out: &mut Out, at: usize, b: Body) -> usize
-    ensures { result ≤ 65_536 }
-{
-    match b {
-        Body::Signaling(p) => port_text(out, at, b" target=", p),
-        _ => stamp_text(out, at, b.stamp()),
-    }
-}
-
 fn body_text(out: &mut Out, at: usize, b: Body) -> usize
     ensures { result ≤ 65_536 }
 {
-    let end = time_text(out, at, b);
+    let end = stamp_text(out, at, b.stamp());
     match b {
         Body::DelayResp(_, p) => port_text(out, end, b" requesting=", p),
         Body::Announce(_, o) => offer_text(out, end, o),

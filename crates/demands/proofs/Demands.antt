@@ -6,22 +6,17 @@
 -- A list of calls holds octets, frames and the lengths of lent tables. `book s calls` has those that were not refused, each with its answer.
 use mathlib.Core.Path.{◌≡◌, refl, sym, ap, subst, ◌∙◌}
 use mathlib.Core.Logic.{◌⊎◌, ◌↔◌}
-use mathlib.Core.Bool.{Bool, true, false}
+use mathlib.Core.Bool.{true, false}
 use mathlib.Core.List.{List, [], ◌∷◌, ◌++◌, map, reverse}
-use Prim.Native.Nat.{ℕ, ◌+◌, ◌-◌, ◌*◌, ◌≤◌}
+use Prim.Native.Nat.{ℕ, ◌-◌, ◌≤◌}
 use native.Mathlib.Nat.{le_trans}
 use lib.IntN.{nat_abs}
 use lib.ListN.{length, take}
 use Rattle.numbers.specs.Integers.{up}
-use Rattle.numbers.specs.declared.stamp.Stamp.{Stamp}
 use Rattle.numbers.specs.declared.refusal.Refusal.{Refusal}
 use Rattle.numbers.specs.declared.refusal.Refusal.TheVariants as refusals
 use Rattle.numbers.specs.Orders.{number_of}
 use Rattle.wire_octets.proofs.Digits.{Octets}
-use Rattle.wire_layout.specs.declared.message.Port.{Port}
-use Rattle.wire_layout.specs.declared.message.Header.{Header}
-use Rattle.wire_layout.specs.declared.message.Body.{Body}
-use Rattle.wire_layout.specs.declared.message.Body.TheVariants.{Signaling}
 use Rattle.wire_layout.specs.declared.message.Message.{Message}
 use Rattle.wire_layout.specs.declared.message.Part.{Part}
 use Rattle.wire_layout.specs.declared.message.Read.TheVariants as reads
@@ -37,10 +32,6 @@ use Rattle.rules_watch.specs.declared.totals.Line.{Line as DriftLine}
 use Rattle.rules_watch.specs.Totals.{points_of, line_through}
 use Rattle.rules_watch.specs.Lines.{Right}
 use Rattle.rules_watch.specs.Watch.{samples_in}
-use Rattle.rules_grants.specs.declared.grant.Service.{Service}
-use Rattle.rules_grants.specs.Grants.{runs_of}
-use Rattle.rules_grants.specs.Showing.{next_of}
-use Rattle.rules_grants.proofs.Rules.{running-exactly}
 use Rattle.rules_settings.specs.declared.Settings.{Settings}
 use Rattle.rules_settings.specs.declared.Given.{Given}
 use Rattle.rules_settings.specs.declared.Set.TheVariants.{Accepted, Refused as NotSet}
@@ -51,22 +42,18 @@ use Rattle.unit_core.specs.Wipe.{one_more}
 use Rattle.unit_core.specs.Answers.{is_refusal, wipes_of}
 use Rattle.unit_measuring.specs.Frame.{framed}
 use Rattle.unit.specs.declared.Unit.{Unit}
-use Rattle.unit_handing.specs.Handing.{Handed, receive, request, reset, line, asked_of, served_of, frame_in, frame_left, served_all}
+use Rattle.unit_handing.specs.Handing.{Handed, request, reset, line, asked_of, served_of, frame_in, frame_left, served_all}
 use Rattle.unit_handing.proofs.Served.{refusal-keeps-frame}
 use Rattle.unit_handing.proofs.Served as served
-use Rattle.story_grants.specs.Signalings.{newest_of, runs_in, senders_in, next_in}
-use Rattle.story.specs.Book.{Book, last_now, sequence, grants}
-use Rattle.story.specs.Saying.{ungranted}
+use Rattle.story.specs.Book.{sequence}
 use Rattle.story.specs.Tale.{book, answer_to, answer_by_history}
 use Rattle.story.proofs.Refines.{unit-refines}
-use Rattle.story.proofs.Grants.{Spared, lacking-told, none-lacks}
-use Rattle.story.proofs.Grants as whole-grants
 use Rattle.door_records.specs.Unit.{core_in}
 use Rattle.door_words.specs.declared.messages.MessageWords.{MessageWords}
 use Rattle.door_words.specs.Messages.{message_by, written_by, left_words}
 use Rattle.door_words.specs.Answers.{refusing, lining, answer_words}
 use Rattle.door_loop.specs.Loop.{Parts, unit_in, Table, counted_in, lends, looped, Meant, means}
-use Rattle.door_loop.proofs.Loop.{parts-told, answers-told as loop-answers}
+use Rattle.door_loop.proofs.Loop.{answers-told as loop-answers}
 use Rattle.demands.specs.Words.{unit_after, parts_after, output_in, chosen_by, faulty_by, now_in, table_found, Emptied, Grown, taken_in, window, is_due, wipes_counted, TooFew, stray_in, is_refused, says_wiped}
 use Rattle.demands.proofs.Refusing.{reason, in_table, set-or-not, written_or_not}
 use Rattle.demands.proofs.Requests.{sequence-told, whole}
@@ -84,8 +71,8 @@ use Rattle.demands.proofs.Parts.{means-unit, unit-wiped, number-told, waiting-le
 pub refused-exactly : (a : Answer) → (is_refusal a ≡ true) ↔ ((r : Refusal) × (a ≡ answers.Refused r))
 refused-exactly a = (reason a, λ h. ap is_refusal h.1)
 
--- .. and each reason has a number of the table, 1 to 21, 25 or 26
-pub numbered : (r : Refusal) → (1 ≤ number_of r) × (number_of r ≤ 26)
+-- .. and each reason has a number of the table, 1 to 21
+pub numbered : (r : Refusal) → (1 ≤ number_of r) × (number_of r ≤ 21)
 numbered r = in_table r
 
 -- of the unit: in any state, for any octets, frame, stamp and table
@@ -225,52 +212,6 @@ pub reset-ends-faulty : (c : Unit) → (served_of c reset).unit.core.domain.faul
 unfolding served_of asked_of
 reset-ends-faulty c = refl
 
--- ==== Unicast grants: what a Signaling does, and what it does not.
-
--- from a fresh unit, whatever its settings, after any list of calls, the oldest first, refused ones of every kind among them
-module _ (s : Settings) (list : List (Handed ℕ)) where
-  -- a grant runs, from the last accepted now on, exactly where the newest word on its sender and service among the accepted Signalings is a grant of some
-  -- seconds, and now is at most 1,000 times these past that word's own now
-  pub grants-told : (sender : Port) (k : Service) (now : ℕ) → last_now (book s (reverse list)) ≤ now
-      → (runs_of (unit_after s list).grants sender k now ≡ true)
-      ↔ ((1 ≤ (newest_of (grants (book s (reverse list))) sender k).seconds)
-      × (now ≤ (newest_of (grants (book s (reverse list))) sender k).at + 1000 * (newest_of (grants (book s (reverse list))) sender k).seconds))
-  unfolding runs_in
-  grants-told sender k now h =
-      let told = whole-grants.grants-told s list sender k now h in
-      let e = running-exactly (newest_of (grants (book s (reverse list))) sender k) now in
-      (λ t. e.0 (sym told ∙ t), λ t. told ∙ e.1 t)
-
-  -- never have more than five senders one running; FULL is by `answers-told` exactly where a sixth would (`full_in`)
-  pub never-six : (now : ℕ) → last_now (book s (reverse list)) ≤ now → length (senders_in (grants (book s (reverse list))) now) ≤ 5
-  never-six now h = whole-grants.never-six s list now h
-
-  -- the grants that are shown, one sender after the other, are the book's
-  pub grants-shown : (now : ℕ) (begun : Bool) (last : Port) → last_now (book s (reverse list)) ≤ now
-      → next_of (unit_after s list).grants now begun last ≡ next_in (grants (book s (reverse list))) now begun last
-  grants-shown now begun last h = whole-grants.grants-shown s list now begun last h
-
-  -- with unicast set, a message that lacks its grant by the book is refused, and changes nothing
-  pub lacking-changes-nothing : (lent : ℕ) (octets : List ℕ) (at : ℕ) (arrival : Stamp) (m : Message) (p : Part) → read_of octets ≡ reads.Got m p
-      → ungranted s (book s (reverse list)) at m.header m.body ≡ true
-      → (is_refusal (served_of (unit_after s list) (receive lent octets at arrival)).answer ≡ true) × ((served_of (unit_after s list) (receive lent octets at arrival)).unit ≡ unit_after s list)
-  lacking-changes-nothing lent octets at arrival m p got u =
-      let refused = lacking-told s list lent octets at arrival m p got u in
-      (refused, (refusal-keeps (unit_after s list) (receive lent octets at arrival) refused).0)
-
--- without it no message lacks one
-pub without-unicast : (s : Settings) (b : Book) → s.unicast ≡ false → (now : ℕ) (h : Header) (body : Body) → ungranted s b now h body ≡ false
-without-unicast s b e now h body = none-lacks s b e now h body
-
--- of any unit, in any state: a Signaling changes nothing but now and the grants, and its answer says no wipe; ..
-pub signaling-spares : (c : Unit) (lent : ℕ) (octets : List ℕ) (now : ℕ) (arrival : Stamp) (h : Header) (target : Port) (p : Part)
-    → read_of octets ≡ reads.Got (record { header = h; body = Signaling target }) p → Spared c (served_of c (receive lent octets now arrival))
-signaling-spares c lent octets now arrival h target p got = whole-grants.signaling-spares c lent octets now arrival h target p got
-
--- .. and no wipe ends a grant
-pub wipe-spares-grants : (c : Unit) (call : Handed ℕ) → wipes_of (served_of c call).answer ≡ true → (served_of c call).unit.grants ≡ c.grants
-wipe-spares-grants c call h = whole-grants.wipe-spares-grants c call h
-
 -- ==== The same at the door. The parts are the unit: what is handed over is octets, and what is answered numbers.
 
 -- an answer is refused, or says that it wiped, in numbers as it does in words
@@ -310,10 +251,6 @@ module _ (s : Settings) (list : List (Handed Table)) where
   pub door-answers-told : (call : Handed Table) → (lends (parts_after s list) call).answer ≡ answer_words (answer_by_history s (reverse (map counted_in list)) (counted_in call))
   unfolding means
   door-answers-told call = ap (λ (m : Meant). m.answer) (loop-answers s list call) ∙ ap answer_words (answers-told s (map counted_in list) (counted_in call))
-
-  -- the grants are those of the unit after the same calls: so all that is said of grants above holds of the part that is lent
-  pub door-grants-told : (parts_after s list).grants ≡ (unit_after s (map counted_in list)).grants
-  door-grants-told = ap (λ (c : Unit). c.grants) (parts-told s list)
 
   -- no output passes the limit
   pub door-output-limited : (call : Handed Table) → nat_abs (lends (parts_after s list) call).answer.output.0 ≤ up s.limit.0

@@ -10,13 +10,8 @@ use Rattle.numbers.specs.declared.stamp.Stamp.{Stamp}
 use Rattle.numbers.specs.declared.ruling.Ruling.{Ruling}
 use Rattle.numbers.specs.declared.ruling.Ruling.TheVariants.{Clear, Barred}
 use Rattle.numbers.specs.Grounds.{first_of}
-use Rattle.numbers.specs.Orders.{number_of, of_exchange, of_signaling, of_time}
-use Rattle.wire_layout.specs.declared.message.Body.{Body}
-use Rattle.wire_layout.specs.declared.message.Body.TheVariants.{Sync, DelayReq, FollowUp, DelayResp, Announce, Signaling}
+use Rattle.numbers.specs.Orders.{of_exchange, of_time}
 use Rattle.wire_layout.specs.declared.message.Message.{Message}
-use Rattle.wire_layout.specs.declared.message.Part.{Part}
-use Rattle.wire_layout.specs.declared.message.Read.{Read}
-use Rattle.wire_layout.specs.declared.message.Read.TheVariants as reads
 use Rattle.wire_layout.specs.Reading.{read_of}
 use Rattle.rules_masters.specs.declared.chosen.Chosen.{Chosen}
 use Rattle.rules_masters.specs.declared.chosen.Decision.{Decision}
@@ -29,9 +24,6 @@ use Rattle.rules_exchange.specs.declared.said.Said.TheVariants.{Held, Paired, As
 use Rattle.rules_exchange.specs.Said.{code_of}
 use Rattle.rules_exchange.specs.Events.{fresh_exchange, field_of, told}
 use Rattle.rules_exchange.specs.Table.{sent as leaves}
-use Rattle.rules_grants.specs.declared.notice.Notice.{Notice}
-use Rattle.rules_grants.specs.declared.grants.Grants.{Grants}
-use Rattle.rules_grants.specs.Grants.{full_of, heeded_of}
 use Rattle.rules_servo.specs.declared.Servo.{Servo}
 use Rattle.rules_watch.specs.declared.Watch.{Watch}
 use Rattle.rules_watch.specs.declared.Pulse.{Pulse}
@@ -54,13 +46,9 @@ use Rattle.door_records.specs.declared.unit.StateWords.{StateWords}
 use Rattle.door_records.specs.declared.masters.MasterWords.{MasterWords}
 use Rattle.door_records.specs.Unit.{settings_in, own_in, exchange_in, watch_in, core_of, delays_words}
 use Rattle.door_words.specs.declared.answers.AnswerWords.{AnswerWords}
-use Rattle.door_words.specs.Messages.{port_in}
 use Rattle.door_words.specs.Answers.{refusing}
 use Rattle.door_core.specs.declared.receiving.Received.{Received}
-use Rattle.door_core.specs.Receiving.{sorted_by, received_by}
-use Rattle.door_granting.specs.declared.Signaled.{Signaled}
-use Rattle.door_granting.specs.Granting.{noticed_in, signaled_by}
-use Rattle.unit_granting.specs.Granting.{signaling_due}
+use Rattle.door_core.specs.Receiving.{received_by}
 use Rattle.door_core.specs.Ticking.{ticked_by}
 use Rattle.door_choosing.specs.declared.Held.{Held as Choice}
 use Rattle.door_choosing.specs.declared.Seated.{Seated}
@@ -68,7 +56,7 @@ use Rattle.door_choosing.specs.Choosing.{held_by, held_of, held_unless, untabled
 use Rattle.door_measuring.specs.declared.measuring.Told.{Told}
 use Rattle.door_measuring.specs.Measuring.{told_by, unless_told, heard_told, sent_told, servo_after}
 use Rattle.door_measuring.specs.Asking.{requested_by}
-use Rattle.door_loop.specs.Lending.{Lent, says, unit_with, spoken_in, told_in, lent_by, chosen_in, placed_in, seat_in, seated_in, lacks_in, signaled_in, signals_in, open_in, received_in, grants_in, grants_after, receive_of, time_of, unit_asking, sent_of, ticked_in, tick_of}
+use Rattle.door_loop.specs.Lending.{Lent, says, unit_with, spoken_in, told_in, lent_by, chosen_in, placed_in, seat_in, seated_in, open_in, received_in, receive_of, time_of, unit_asking, sent_of, ticked_in, tick_of}
 use Rattle.door_loop.specs.Loop.{Parts, Table, own, stray, lends}
 use Rattle.demands.specs.Words.{is_refused, stray_in}
 
@@ -116,8 +104,8 @@ module _ (u : UnitWords) (v : Servo) (w : Watch) where
     kept-told q e = go q.barred e
       where
         go : (b : Bool) → eqb q.code 0 ≡ b
-            → Kept (cond b (says u v t w (refusing (number_of q.refusal))) (spoken_in u t w q (servo_after u.settings v q.found q.steers q.wipes)))
-        go true e = kept-says (refusing (number_of q.refusal))
+            → Kept (cond b (says u v t w (refusing q.number)) (spoken_in u t w q (servo_after u.settings v q.found q.steers q.wipes)))
+        go true e = kept-says (refusing q.number)
         go false e = λ h. absurd (never (sym e ∙ h))
 
     -- ---- the choice
@@ -135,66 +123,23 @@ module _ (u : UnitWords) (v : Servo) (w : Watch) where
     kept-timed now (Barred n) c = λ h. (refl, refl, refl, refl)
 
     -- ---- a message, and the bare time call
-    heard-speaks : (m : Message) (now : ℕ) (t2 : Stamp) (x : Bool)
-        → eqb (heard_told u.settings u.state u.halves u.delays m now t2 x).code 0 ≡ (heard_told u.settings u.state u.halves u.delays m now t2 x).barred
-    heard-speaks m now t2 x =
+    heard-speaks : (m : Message) (now : ℕ) (t2 : Stamp)
+        → eqb (heard_told u.settings u.state u.halves u.delays m now t2).code 0 ≡ (heard_told u.settings u.state u.halves u.delays m now t2).barred
+    heard-speaks m now t2 =
         let a = handed (exchange_in u.halves u.delays) (own_in u.settings) t2 m.header m.body in
-        unless-speaks u.state (first_of (message_grounds (settings_in u.settings) (stays_of (core_of u.settings u.state u.halves u.delays)) now t2 x m.header m.body))
+        unless-speaks u.state (first_of (message_grounds (settings_in u.settings) (stays_of (core_of u.settings u.state u.halves u.delays)) now t2 m.header m.body))
         (told_by u.state now a.answer a.exchange) (told-speaks u.state now a.answer a.exchange)
 
-    -- ---- a Signaling
-    kept-signaled : (g after : Grants) (now : ℕ) (r : Ruling) → Kept (signals_in u v t w (signaled_by u.state g after now r))
-    kept-signaled g after now Clear h = absurd (never h)
-    kept-signaled g after now (Barred n) h = (refl, refl, refl, refl)
+    kept-open : (k : Received) (now : ℕ) (t2 : Stamp) → Kept (open_in u v t w k now t2)
+    kept-open k now t2 =
+        by_test Kept k.announces (kept-seated k.message now (seat_in u t k.message now))
+        (kept-told (heard_told u.settings u.state u.halves u.delays k.message now t2) (heard-speaks k.message now t2))
 
-    module _ (g : Grants) (octets : List ℕ) (now : ℕ) (t2 : Stamp) where
-      abbrev Noticed : Part → Notice
-      Noticed p = noticed_in octets p.from p.to
+    kept-received : (k : Received) (now : ℕ) (t2 : Stamp) → Kept (received_in u v t w k now t2)
+    kept-received k now t2 = by_test Kept k.barred (kept-says (refusing k.number)) (by_test Kept (eqb (length t) 5) (kept-open k now t2) (kept-says untabled_of))
 
-      abbrev heeded : Message → Part → Grants
-      heeded m p = heeded_of g m.header.source now (Noticed p)
-
-      abbrev bars : Message → Part → Ruling
-      bars m p =
-          first_of (of_signaling (signaling_due u.settings.domain (own_in u.settings) u.state.now now m.header (port_in m.body) (Noticed p).spoiled (full_of g m.header.source now (Noticed p))))
-
-      kept-open : (k : Received) → Kept (open_in u v t w g octets k now t2)
-      kept-open k =
-          by_test Kept k.announces (kept-seated k.message now (seat_in u t k.message now (lacks_in u.settings g k.message now)))
-          (by_test Kept k.signals (kept-signaled g (heeded k.message k.part) now (bars k.message k.part))
-          (kept-told (heard_told u.settings u.state u.halves u.delays k.message now t2 (lacks_in u.settings g k.message now))
-          (heard-speaks k.message now t2 (lacks_in u.settings g k.message now))))
-
-      kept-received : (k : Received) → Kept (received_in u v t w g octets k now t2)
-      kept-received k = by_test Kept k.barred (kept-says (refusing k.number)) (by_test Kept (eqb (length t) 5) (kept-open k) (kept-says untabled_of))
-
-      pub kept-receive : Kept (receive_of u v t w g octets now t2)
-      kept-receive = kept-received (received_by (read_of octets))
-
-      -- the grants: only a Signaling changes them, and one that is refused does not
-      by-ruling : (after : Grants) (r : Ruling) → is_refused (signaled_by u.state g after now r).answer ≡ true → (signaled_by u.state g after now r).grants ≡ g
-      by-ruling after Clear h = absurd (never h)
-      by-ruling after (Barred n) h = refl
-
-      by_length : (q : Signaled) → (is_refused q.answer ≡ true → q.grants ≡ g) → (five : Bool)
-          → is_refused (cond five (signals_in u v t w q) (says u v t w untabled_of)).answer ≡ true → cond five q.grants g ≡ g
-      by_length q f true h = f h
-      by_length q f false h = refl
-
-      by-body : (m : Message) (p : Part) (b : Body) → is_refused (received_in u v t w g octets (sorted_by m p b) now t2).answer ≡ true → grants_in u t g octets (sorted_by m p b) now ≡ g
-      by-body m p (Sync t1) h = by_test (λ (x : Grants). x ≡ g) (eqb (length t) 5) refl refl
-      by-body m p (DelayReq stamp) h = refl
-      by-body m p (FollowUp t1) h = by_test (λ (x : Grants). x ≡ g) (eqb (length t) 5) refl refl
-      by-body m p (DelayResp t4 r) h = by_test (λ (x : Grants). x ≡ g) (eqb (length t) 5) refl refl
-      by-body m p (Announce stamp offer) h = by_test (λ (x : Grants). x ≡ g) (eqb (length t) 5) refl refl
-      by-body m p (Signaling target) h = by_length (signaled_in u g octets m p now) (by-ruling (heeded m p) (bars m p)) (eqb (length t) 5) h
-
-      by_read : (r : Read) → is_refused (received_in u v t w g octets (received_by r) now t2).answer ≡ true → grants_in u t g octets (received_by r) now ≡ g
-      by_read (reads.Refused n) h = refl
-      by_read (reads.Got m part) h = by-body m part m.body h
-
-      pub grants-kept : is_refused (receive_of u v t w g octets now t2).answer ≡ true → grants_after u t g octets now ≡ g
-      grants-kept h = by_read (read_of octets) h
+    pub kept-receive : (octets : List ℕ) (now : ℕ) (t2 : Stamp) → Kept (receive_of u v t w octets now t2)
+    kept-receive octets now t2 = kept-received (received_by (read_of octets)) now t2
 
     pub kept-time : (now : ℕ) → Kept (time_of u v t w now)
     kept-time now = by_test Kept (eqb (length t) 5) (kept-timed now (first_of (of_time (time_due u.state.now now))) (chosen_in u t now)) (kept-says untabled_of)
@@ -224,44 +169,39 @@ module _ (u : UnitWords) (v : Servo) (w : Watch) where
 
 -- ---- every call
 -- the parts as they were
-same_parts : (p : Parts) (u : UnitWords) (v : Servo) (t : List MasterWords) (w : Watch) (g : Grants) → u ≡ p.unit → v ≡ p.servo → t ≡ p.table → w ≡ p.watch → g ≡ p.grants
-    → ◌≡◌ {A = Parts} (record { unit = u; servo = v; table = t; watch = w; grants = g }) p
-same_parts p u v t w g a b c d e = rw (a, b, c, d, e)
+same_parts : (p : Parts) (u : UnitWords) (v : Servo) (t : List MasterWords) (w : Watch) → u ≡ p.unit → v ≡ p.servo → t ≡ p.table → w ≡ p.watch
+    → ◌≡◌ {A = Parts} (record { unit = u; servo = v; table = t; watch = w }) p
+same_parts p u v t w a b c d = rw (a, b, c, d)
 
 module _ (p : Parts) where
   abbrev Same : Handed Table → Type 0
   Same call = ((lends p call).parts ≡ p) × ((lends p call).frame ≡ frame_in call) × ((lends p call).stray ≡ stray_in call)
 
-  lent_same : (g : Grants) (l : Lent) → g ≡ p.grants → Kept p.unit p.servo p.watch p.table l → is_refused l.answer ≡ true
-      → ◌≡◌ {A = Parts} (record { unit = l.unit; servo = l.servo; table = l.table; watch = l.watch; grants = g }) p
-  lent_same g l f k h = let e = k h in same_parts p l.unit l.servo l.table l.watch g e.0 e.1 e.2 e.3 f
+  lent_same : (l : Lent) → Kept p.unit p.servo p.watch p.table l → is_refused l.answer ≡ true
+      → ◌≡◌ {A = Parts} (record { unit = l.unit; servo = l.servo; table = l.table; watch = l.watch }) p
+  lent_same l k h = let e = k h in same_parts p l.unit l.servo l.table l.watch e.0 e.1 e.2 e.3
 
-  turned_same : (g : Grants) (t : List MasterWords) (l : Lent) → g ≡ p.grants → Kept p.unit p.servo p.watch t l → is_refused l.answer ≡ true
-      → ◌≡◌ {A = Parts} (record { unit = l.unit; servo = l.servo; table = p.table; watch = l.watch; grants = g }) p
-  turned_same g t l f k h = let e = k h in same_parts p l.unit l.servo p.table l.watch g e.0 e.1 refl e.3 f
+  turned_same : (t : List MasterWords) (l : Lent) → Kept p.unit p.servo p.watch t l → is_refused l.answer ≡ true
+      → ◌≡◌ {A = Parts} (record { unit = l.unit; servo = l.servo; table = p.table; watch = l.watch }) p
+  turned_same t l k h = let e = k h in same_parts p l.unit l.servo p.table l.watch e.0 e.1 refl e.3
 
   pub refusal-keeps-parts : (call : Handed Table) → is_refused (lends p call).answer ≡ true → Same call
   unfolding lends
-  refusal-keeps-parts (receive own octets now arrival) h =
-      let k = kept-receive p.unit p.servo p.watch p.table p.grants octets now arrival in
-      let g = grants-kept p.unit p.servo p.watch p.table p.grants octets now arrival h in
-      (lent_same (grants_after p.unit p.table p.grants octets now) (receive_of p.unit p.servo p.table p.watch p.grants octets now arrival) g k h, refl, refl)
+  refusal-keeps-parts (receive own octets now arrival) h = (lent_same (receive_of p.unit p.servo p.table p.watch octets now arrival) (kept-receive p.unit p.servo p.watch p.table octets now arrival) h, refl, refl)
   refusal-keeps-parts (receive (stray t e) octets now arrival) h =
-      let k = kept-receive p.unit p.servo p.watch t p.grants octets now arrival in
-      let g = grants-kept p.unit p.servo p.watch t p.grants octets now arrival h in
-      (turned_same (grants_after p.unit t p.grants octets now) t (receive_of p.unit p.servo t p.watch p.grants octets now arrival) g k h, refl, (k h).2)
+      let k = kept-receive p.unit p.servo p.watch t octets now arrival in (turned_same t (receive_of p.unit p.servo t p.watch octets now arrival) k h, refl, (k h).2)
   refusal-keeps-parts (request frame now) h =
       let r = first_of (request_grounds (stays_of (core_of p.unit.settings p.unit.state p.unit.halves (delays_words fresh_exchange))) now (length frame)) in
       let k = kept-request p.unit p.servo p.watch now r h (delay_req p.unit.settings.domain (own_in p.unit.settings) p.unit.state.sequence) frame in
-      (same_parts p (unit_asking p.unit now (length frame)) p.servo p.table p.watch p.grants k.0 refl refl refl refl, k.1, refl)
+      (same_parts p (unit_asking p.unit now (length frame)) p.servo p.table p.watch k.0 refl refl refl, k.1, refl)
   refusal-keeps-parts (sent now sequence t3) h =
-      let k = kept-sent p.unit p.servo p.watch now sequence t3 in (turned_same p.grants [] (sent_of p.unit p.servo p.watch now sequence t3) refl k h, refl, (k h).2)
-  refusal-keeps-parts (time own now) h = (lent_same p.grants (time_of p.unit p.servo p.table p.watch now) refl (kept-time p.unit p.servo p.watch p.table now) h, refl, refl)
+      let k = kept-sent p.unit p.servo p.watch now sequence t3 in (turned_same [] (sent_of p.unit p.servo p.watch now sequence t3) k h, refl, (k h).2)
+  refusal-keeps-parts (time own now) h = (lent_same (time_of p.unit p.servo p.table p.watch now) (kept-time p.unit p.servo p.watch p.table now) h, refl, refl)
   refusal-keeps-parts (time (stray t e) now) h =
-      let k = kept-time p.unit p.servo p.watch t now in (turned_same p.grants t (time_of p.unit p.servo t p.watch now) refl k h, refl, (k h).2)
+      let k = kept-time p.unit p.servo p.watch t now in (turned_same t (time_of p.unit p.servo t p.watch now) k h, refl, (k h).2)
   refusal-keeps-parts reset h = absurd (never h)
   refusal-keeps-parts (tick reference clock) h =
       let k = kept-tick p.unit p.servo p.watch reference clock in
-      (turned_same p.grants [] (tick_of p.unit p.servo p.watch reference clock) refl k h, refl, (k h).2)
+      (turned_same [] (tick_of p.unit p.servo p.watch reference clock) k h, refl, (k h).2)
   refusal-keeps-parts line h = (refl, refl, refl)
   refusal-keeps-parts show h = (refl, refl, refl)

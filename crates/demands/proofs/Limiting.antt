@@ -30,15 +30,12 @@ use Rattle.rules_watch.specs.declared.Drift.TheVariants as drift
 use Rattle.rules_watch.specs.declared.judging.Outcome.{Outcome}
 use Rattle.rules_watch.specs.declared.judging.Outcome.TheVariants.{Refuse, Wipe, Take}
 use Rattle.rules_watch.specs.Rules.{outcome, line_since}
-use Rattle.rules_grants.specs.declared.notice.Notice.{Notice}
 use Rattle.rules_settings.specs.declared.Settings.{Settings}
 use Rattle.unit_core.specs.declared.calls.Call.{Call}
 use Rattle.unit_core.specs.declared.calls.Call.TheVariants as calls
 use Rattle.unit_core.specs.declared.calls.Answer.{Answer}
 use Rattle.unit_core.specs.declared.calls.Answer.TheVariants as answers
 use Rattle.unit_choosing.specs.Choosing.{time_due}
-use Rattle.unit_granting.specs.Granting.{signaling_bars}
-use Rattle.story_grants.specs.Signalings.{full_in}
 use Rattle.unit_measuring.specs.Barring.{field_in, message_due, own_due}
 use Rattle.unit_measuring.specs.Hearing.{two_step_in}
 use Rattle.unit_measuring.specs.Asking.{request_due}
@@ -51,8 +48,8 @@ use Rattle.story_servo.specs.Offsets.{output}
 use Rattle.story_servo.proofs.Refines.{machine, tells as servo-tells}
 use Rattle.story_masters.specs.Places.{answer as seat_answer}
 use Rattle.story_lists.specs.Reading.{with_it}
-use Rattle.story.specs.Book.{Book, wipe_count, last_now, sequence, stays_in, seats, exchange_log, offsets, offset_by, samples, then, grants}
-use Rattle.story.specs.Saying.{unless_barred, unit_answer, event_answer, calling, choice_answer, admission_answer, pulse_answer, message_answer, answer, ungranted}
+use Rattle.story.specs.Book.{Book, wipe_count, last_now, sequence, stays_in, seats, exchange_log, offsets, offset_by, samples, then}
+use Rattle.story.specs.Saying.{unless_barred, unit_answer, event_answer, calling, choice_answer, admission_answer, pulse_answer, message_answer, answer}
 use Rattle.story.specs.Tale.{answer_to}
 use Rattle.door_words.specs.Answers.{answer_words}
 use Rattle.demands.specs.Words.{output_in}
@@ -88,13 +85,12 @@ module _ (s : Settings) where
     limited-admission now m (admission.Renewed p) = omega arith
     limited-admission now m (admission.Entered p) = omega arith
 
-    limited-message : (now : ℕ) (t2 : Stamp) (notice : Notice) (h : Header) (m : Body) → Limited (message_answer s b now t2 notice h m)
-    limited-message now t2 notice h (bodies.Announce stamp offer) = limited-admission now (record { header = h; stamp = stamp; offer = offer }) (seat_answer s.domain s.own s.announce (seats s b) (record { header = h; stamp = stamp; offer = offer }) now (ungranted s b now h (bodies.Announce stamp offer)))
-    limited-message now t2 notice h (bodies.DelayReq t) = omega arith
-    limited-message now t2 notice h (bodies.Sync t1) = limited-calling (message_due s (stays_in b) now h (field_in t2 (bodies.Sync t1)) (ungranted s b now h (bodies.Sync t1))) (sync (two_step_in h) h.sequence h.correction t1 t2)
-    limited-message now t2 notice h (bodies.FollowUp t1) = limited-calling (message_due s (stays_in b) now h (field_in t2 (bodies.FollowUp t1)) (ungranted s b now h (bodies.FollowUp t1))) (follow_up h.sequence h.correction t1)
-    limited-message now t2 notice h (bodies.DelayResp t4 p) = limited-calling (message_due s (stays_in b) now h (field_in t2 (bodies.DelayResp t4 p)) (ungranted s b now h (bodies.DelayResp t4 p))) (delay_resp h.sequence h.correction t4 p s.own)
-    limited-message now t2 notice h (bodies.Signaling target) = limited-unless (signaling_bars s (stays_in b) now h target notice (full_in (grants b) h.source now notice)) answers.Signaled (omega arith)
+    limited-message : (now : ℕ) (t2 : Stamp) (h : Header) (m : Body) → Limited (message_answer s b now t2 h m)
+    limited-message now t2 h (bodies.Announce stamp offer) = limited-admission now (record { header = h; stamp = stamp; offer = offer }) (seat_answer s.domain s.own s.announce (seats s b) (record { header = h; stamp = stamp; offer = offer }) now)
+    limited-message now t2 h (bodies.DelayReq t) = omega arith
+    limited-message now t2 h (bodies.Sync t1) = limited-calling (message_due s (stays_in b) now h (field_in t2 (bodies.Sync t1))) (sync (two_step_in h) h.sequence h.correction t1 t2)
+    limited-message now t2 h (bodies.FollowUp t1) = limited-calling (message_due s (stays_in b) now h (field_in t2 (bodies.FollowUp t1))) (follow_up h.sequence h.correction t1)
+    limited-message now t2 h (bodies.DelayResp t4 p) = limited-calling (message_due s (stays_in b) now h (field_in t2 (bodies.DelayResp t4 p))) (delay_resp h.sequence h.correction t4 p s.own)
 
     -- ---- the watch
     limited-pulse : (o : Outcome) → Limited (pulse_answer s b o)
@@ -109,7 +105,7 @@ module _ (s : Settings) where
     -- ---- every call
     limited-answer : (call : Call) → Limited (answer s b call)
     unfolding answer
-    limited-answer (calls.Receive now t2 m notice) = limited-message now t2 notice m.header m.body
+    limited-answer (calls.Receive now t2 m) = limited-message now t2 m.header m.body
     limited-answer (calls.Request now room) = limited-calling (request_due (stays_in b) now room) (requested (sequence b))
     limited-answer (calls.Sent now n t3) = limited-calling (own_due (stays_in b) now (field_of t3)) (sent n t3)
     limited-answer (calls.Time now) = limited-unless (first_of (of_time (time_due (last_now b) now))) (choice_answer s b now (seats s b)) (omega arith)
@@ -132,4 +128,3 @@ words-output (answers.Watch p) = omega arith
 words-output answers.Wiped = omega arith
 words-output (answers.Line l n) = omega arith
 words-output (answers.Shows x) = omega arith
-words-output answers.Signaled = omega arith

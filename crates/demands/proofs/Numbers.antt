@@ -4,14 +4,13 @@ use mathlib.Core.Path.{◌≡◌, refl, ap}
 use mathlib.Core.Bool.{Bool, true, false}
 use mathlib.Core.List.{List, [], ◌∷◌}
 use Prim.Native.Nat.{ℕ, ◌+◌}
-use lib.Dec.{eqb}
 use lib.IntN.{ℤ, pos, negsuc, neg_ℤ}
 use Rattle.numbers.specs.declared.stamp.Stamp.{Stamp}
-use Rattle.numbers.specs.declared.refusal.Refusal.TheVariants.{Now, Faulty, Domain, NotMaster, Field, Room, Own, Alternate, Steps, Length, Full, Target, Grant}
+use Rattle.numbers.specs.declared.refusal.Refusal.TheVariants.{Now, Faulty, Domain, NotMaster, Field, Room, Own, Alternate, Steps}
 use Rattle.numbers.specs.declared.ruling.Ruling.{Ruling}
 use Rattle.numbers.specs.declared.ruling.Ruling.TheVariants.{Clear, Barred}
 use Rattle.numbers.specs.Grounds.{first_of}
-use Rattle.numbers.specs.Orders.{none_due, of_exchange, of_signaling, of_time}
+use Rattle.numbers.specs.Orders.{none_due, of_exchange, of_time}
 use Rattle.numbers.specs.Rounding.{rounded_of, half_to_even, floor_z, held_within}
 use Rattle.numbers.specs.Stamps.{moment, sound_of, below_of}
 use Rattle.wire_layout.specs.declared.message.Header.{Header}
@@ -43,14 +42,10 @@ use Rattle.rules_watch.specs.declared.judging.Outcome.TheVariants.{Wipe, Take}
 use Rattle.rules_watch.specs.Rules.{Stamps, fresh_since, outside_of, followed, on_last, inside}
 use Rattle.rules_watch.specs.Watch.{fresh_watch, watch_after, watch_line}
 use Rattle.rules_watch.proofs.Examples.{bench, p11, p12}
-use Rattle.rules_grants.specs.declared.grant.Service.{Service}
-use Rattle.rules_grants.specs.Grants.{running_of, same_sender_of}
-use Rattle.rules_grants.specs.Notices.{message_of}
 use Rattle.rules_settings.specs.declared.Given.{Given}
 use Rattle.rules_settings.specs.Ranges.{steering_fits, watch_fits, bare_settings}
 use Rattle.unit_core.specs.Effects.{Stays}
 use Rattle.unit_choosing.specs.Choosing.{time_due}
-use Rattle.unit_granting.specs.Granting.{ungranted_by, is_for_us, signaling_due}
 use Rattle.unit_measuring.specs.Barring.{field_in, message_due, own_due}
 use Rattle.unit_measuring.specs.Asking.{request_due}
 
@@ -483,11 +478,8 @@ first_taken = refl
 abbrev holding : (some faulty : Bool) → Stays
 holding some faulty = record { now = 5_000; chosen = record { some = some; sender = record { clock = 8; number = 1 } }; faulty = faulty; sequence = 0 }
 
-abbrev heard_lacking : Bool → Stays → ℕ → Header → Bool → Ruling
-heard_lacking ungranted k now h field = first_of (of_exchange (message_due bare_settings k now h field ungranted))
-
 abbrev heard : Stays → ℕ → Header → Bool → Ruling
-heard = heard_lacking false
+heard k now h field = first_of (of_exchange (message_due bare_settings k now h field))
 
 pub messages-barred : (heard (holding true false) 5_000 (headed 0 0 8 1) false ≡ Clear)  -- rule 3.9: an equal now
     × (heard (holding true false) 4_999 (headed 0 0 8 1) false ≡ Barred Now)  -- rule 3.9
@@ -498,10 +490,8 @@ pub messages-barred : (heard (holding true false) 5_000 (headed 0 0 8 1) false �
     × (heard (holding true true) 5_000 (headed 0 1 9 1) false ≡ Barred Faulty)  -- rule 3.57: .. 18 before it, ..
     × (heard (holding true true) 4_999 (headed 0 1 9 1) false ≡ Barred Now)  -- rule 3.57: .. then 9, ..
     × (heard (holding true true) 4_999 (headed 0 1 9 1) true ≡ Barred Field)  -- rule 3.57: .. and 5 first
-    × (heard_lacking true (holding true false) 5_000 (headed 0 0 8 1) false ≡ Barred Grant)  -- rule 3.26
-    × (heard_lacking true (holding true false) 5_000 (headed 0 0 9 1) false ≡ Barred NotMaster)  -- rule 3.57: 16 before 26
 unfolding first_of is_master same_key_of
-messages-barred = (refl, refl, refl, refl, refl, refl, refl, refl, refl, refl, refl)
+messages-barred = (refl, refl, refl, refl, refl, refl, refl, refl, refl)
 
 -- by t2 and the message: one nanosecond or one second too many
 pub fields-asked : (field_in (at 7 999_999_999) (Sync (at 7 999_999_999)) ≡ false)  -- rule 3.5
@@ -538,12 +528,9 @@ unfolding first_of
 times-barred = (refl, refl)
 
 -- an Announce at `now` by its flags, domain, sender and stepsRemoved, where the unit is port 1 of the clock 7 and nothing held bars it
-abbrev announced_lacking : Bool → (now flags domain clock number steps : ℕ) → Ruling
-announced_lacking ungranted now flags domain clock number steps =
-    first_of (grounds_with (record { header = headed flags domain clock number; stamp = at 0 0; offer = (announcing 1 6 33 20_061 128 8 steps 8 1).announce.offer }) 0 (record { clock = 7; number = 1 }) 5_000 now ungranted none_due)
-
 abbrev announced : (now flags domain clock number steps : ℕ) → Ruling
-announced = announced_lacking false
+announced now flags domain clock number steps =
+    first_of (grounds_with (record { header = headed flags domain clock number; stamp = at 0 0; offer = (announcing 1 6 33 20_061 128 8 steps 8 1).announce.offer }) 0 (record { clock = 7; number = 1 }) 5_000 now none_due)
 
 pub announces-barred : (announced 5_000 0 0 8 1 0 ≡ Clear)  -- rule 3.9
     × (announced 4_999 0 0 8 1 0 ≡ Barred Now)  -- rule 3.9
@@ -557,51 +544,8 @@ pub announces-barred : (announced 5_000 0 0 8 1 0 ≡ Clear)  -- rule 3.9
     × (announced 5_000 256 0 7 1 255 ≡ Barred Own)  -- rule 3.56: .. 11 before it, ..
     × (announced 5_000 256 1 7 1 255 ≡ Barred Domain)  -- rule 3.56: .. then 10, ..
     × (announced 4_999 256 1 7 1 255 ≡ Barred Now)  -- rule 3.56: .. and 9 first
-    × (announced_lacking true 5_000 0 0 8 1 255 ≡ Barred Grant)  -- rules 3.26 and 3.56: 26 before 13
-    × (announced_lacking true 5_000 256 0 8 1 0 ≡ Barred Alternate)  -- rule 3.56: 12 before 26
 unfolding first_of alternate_of
-announces-barred = (refl, refl, refl, refl, refl, refl, refl, refl, refl, refl, refl, refl, refl, refl)
-
--- a Signaling at `now` by its domain, target and what its TLVs and the grants say of it, where the unit is port 1 of the clock 7
-abbrev signaled : (now domain clock number : ℕ) (spoiled full : Bool) → Ruling
-signaled now domain clock number spoiled full =
-    first_of (of_signaling (signaling_due 0 (record { clock = 7; number = 1 }) 5_000 now (headed 0 domain 8 1) (record { clock = clock; number = number }) spoiled full))
-
-pub signalings-barred : (signaled 5_000 0 7 1 false false ≡ Clear)  -- rule 13.8: for us
-    × (signaled 5_000 0 18_446_744_073_709_551_615 65_535 false false ≡ Clear)  -- rule 13.8: for all
-    × (signaled 5_000 0 7 65_535 false false ≡ Barred Target)  -- rule 13.8: neither
-    × (signaled 5_000 0 18_446_744_073_709_551_615 1 false false ≡ Barred Target)  -- rule 13.8
-    × (signaled 5_000 0 7 1 false true ≡ Barred Full)  -- rule 3.15
-    × (signaled 5_000 0 7 1 true true ≡ Barred Length)  -- rule 3.69: 4 before 15, ..
-    × (signaled 5_000 0 9 1 true true ≡ Barred Target)  -- rule 3.69: .. 25 before it, ..
-    × (signaled 5_000 1 9 1 true true ≡ Barred Domain)  -- rule 3.69: .. then 10, ..
-    × (signaled 4_999 1 9 1 true true ≡ Barred Now)  -- rule 3.69: .. and 9 first
-unfolding first_of is_for_us same_sender_of
-signalings-barred = (refl, refl, refl, refl, refl, refl, refl, refl, refl)
-
--- a grant of so many seconds, given at 5,000
-pub grants-run : (running_of 5_000 (record { seconds = 1; at = 5_000 }) ≡ true)  -- rule 13.4
-    × (running_of 6_000 (record { seconds = 1; at = 5_000 }) ≡ true)  -- rule 13.4: at its edge
-    × (running_of 6_001 (record { seconds = 1; at = 5_000 }) ≡ false)  -- rule 13.4: and a millisecond later
-    × (running_of 5_000 (record { seconds = 0; at = 5_000 }) ≡ false)  -- rule 13.5
-    × (running_of 4_294_967_300_000 (record { seconds = 4_294_967_295; at = 5_000 }) ≡ true)  -- rule 13.4: the longest
-    × (running_of 4_294_967_300_001 (record { seconds = 4_294_967_295; at = 5_000 }) ≡ false)  -- rule 13.4
-unfolding running_of
-grants-run = (refl, refl, refl, refl, refl, refl)
-
--- only the service whose message has this kind
-abbrev only : ℕ → Service → Bool
-only kind k = eqb kind (message_of k)
-
--- which message lacks its grant, where only that service's grant runs
-pub grants-needed : (ungranted_by true (λ k. false) (Sync (at 7 0)) ≡ true)  -- rule 13.9
-    × (ungranted_by false (λ k. false) (Sync (at 7 0)) ≡ false)  -- rule 13.9: unicast is not set
-    × (ungranted_by true (only 0) (FollowUp (at 7 0)) ≡ false)  -- rule 13.9: that of Sync
-    × (ungranted_by true (only 11) (FollowUp (at 7 0)) ≡ true)  -- rule 13.9: not that of Announce
-    × (ungranted_by true (only 0) (DelayResp (at 7 0) (record { clock = 8; number = 1 })) ≡ true)  -- rule 13.9
-    × (ungranted_by true (only 9) (DelayResp (at 7 0) (record { clock = 8; number = 1 })) ≡ false)  -- rule 13.9
-unfolding ungranted_by
-grants-needed = (refl, refl, refl, refl, refl, refl)
+announces-barred = (refl, refl, refl, refl, refl, refl, refl, refl, refl, refl, refl, refl)
 
 -- ---- the settings: announce and sync exponents, Kp, Ki, limit; then W, minimum, holdoff, tolerance, spike, jump
 abbrev given-as : ℤ → ℤ → ℤ → ℤ → ℤ → ℤ → ℤ → ℤ → ℤ → ℤ → ℤ → Given
@@ -620,7 +564,6 @@ given-as announce sync kp ki limit window minimum holdoff tolerance spike jump =
       tolerance = tolerance;
       spike = spike;
       jump = jump;
-      unicast = pos 0;
     }
 
 abbrev steers : ℤ → ℤ → ℤ → ℤ → ℤ → Bool
@@ -640,31 +583,6 @@ pub steering-ranges : (steers (pos 0) (pos 0) (pos 100) (pos 10) (pos 1) ≡ tru
     × (steers (pos 0) (pos 0) (pos 100) (pos 10) (pos 100_001) ≡ false)  -- rule 4.7
 unfolding steering_fits
 steering-ranges = (refl, refl, refl, refl, refl, refl, refl, refl, refl, refl, refl, refl)
-
--- unicast is 0 or 1
-abbrev unicasting : ℤ → Bool
-unicasting u =
-    steering_fits
-    (record {
-      domain = 0;
-      own = record { clock = 7; number = 1 };
-      announce = pos 0;
-      sync = pos 0;
-      kp = pos 100;
-      ki = pos 10;
-      limit = pos 1;
-      window = pos 0;
-      minimum = pos 0;
-      holdoff = pos 0;
-      tolerance = pos 0;
-      spike = pos 0;
-      jump = pos 0;
-      unicast = u;
-    })
-
-pub unicast-range : (unicasting (pos 0) ≡ true) × (unicasting (pos 1) ≡ true) × (unicasting (pos 2) ≡ false) × (unicasting (minus 1) ≡ false)  -- rule 4.15
-unfolding steering_fits
-unicast-range = (refl, refl, refl, refl)
 
 abbrev watches : ℤ → ℤ → ℤ → ℤ → ℤ → ℤ → Bool
 watches window minimum holdoff tolerance spike jump = watch_fits (given-as (pos 0) (pos 0) (pos 0) (pos 0) (pos 0) window minimum holdoff tolerance spike jump)

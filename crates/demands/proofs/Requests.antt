@@ -43,11 +43,11 @@ pub memory : (s : Settings) (list : List (Handed ℕ)) → Tells s (past s (reve
 memory s list = subst (Tells s (past s (reverse (calls_in list)))) (sym (served-is (fresh_unit s) list)) (all_told s (calls_in list))
 
 module _ (c : Unit) where
-  ruled : (e : Effect) (v : Ruling) (m : Message) (f : List ℕ) → is_refusal (applied c c.table c.grants (unless v e)).answer ≡ false → frame_by v m f ≡ framed m f
+  ruled : (e : Effect) (v : Ruling) (m : Message) (f : List ℕ) → is_refusal (applied c c.table (unless v e)).answer ≡ false → frame_by v m f ≡ framed m f
   ruled e rulings.Clear m f h = refl
   ruled e (rulings.Barred r) m f h = absurd (never (sym h))
 
-  narrow-refused : (e : Effect) (v : Ruling) → is_refusal (applied c c.table c.grants (unless (or_else v (rulings.Barred Room)) e)).answer ≡ false → ⊥
+  narrow-refused : (e : Effect) (v : Ruling) → is_refusal (applied c c.table (unless (or_else v (rulings.Barred Room)) e)).answer ≡ false → ⊥
   narrow-refused e rulings.Clear h = never (sym h)
   narrow-refused e (rulings.Barred r) h = never (sym h)
 
@@ -81,9 +81,9 @@ module _ (s : Settings) where
     unfolding served_of asked_of requests
     whole n h =
         go (narrow (length frame)) refl
-        (subst (λ (v : Ruling). is_refusal (applied c c.table c.grants (unless v asks)).answer ≡ false) (room-bars (stays_of c.core) at (narrow (length frame)) others refl) h)
+        (subst (λ (v : Ruling). is_refusal (applied c c.table (unless v asks)).answer ≡ false) (room-bars (stays_of c.core) at (narrow (length frame)) others refl) h)
       where
-        go : (b : Bool) → narrow (length frame) ≡ b → is_refusal (applied c c.table c.grants (unless (or_else others (cond b (rulings.Barred Room) rulings.Clear)) asks)).answer ≡ false
+        go : (b : Bool) → narrow (length frame) ≡ b → is_refusal (applied c c.table (unless (or_else others (cond b (rulings.Barred Room) rulings.Clear)) asks)).answer ≡ false
             → write_of (request_of s.domain s.own n) [] (length frame - 14) ≡ Wrote 44
         go true e k = absurd (narrow-refused c asks others k)
         go false e k = written-whole n (length frame - 14) (roomy (ltb (length frame) 14) (ltb (length frame - 14) 44) e)

@@ -41,7 +41,7 @@ module _ (s : Settings) (b : Book) where
 
   pulse-new : (call : Call) (a : Answer) → (new : List Sample) × (length new ≤ 1) × (samples_of s.watch (all a_pulse (entry call a ∷ since_wipe b)) ≡ samples_of s.watch before ++ new)
   unfolding all samples_of
-  pulse-new (Receive now arrival m notice) a = nothing-new
+  pulse-new (Receive now arrival m) a = nothing-new
   pulse-new (Request now room) a = nothing-new
   pulse-new (Sent now sequence t3) a = nothing-new
   pulse-new (Time now) a = nothing-new
@@ -70,7 +70,6 @@ module _ (s : Settings) (b : Book) where
   wipe-written answers.Wiped h = refl
   wipe-written (answers.Line l n) h = refl
   wipe-written (answers.Shows x) h = refl
-  wipe-written answers.Signaled h = refl
 
   call-emptied : (call : Call) (a : Answer) → wipes_of a ≡ true → taken_in s (book_with call a b) ≡ []
   unfolding since all samples_of

@@ -27,13 +27,9 @@ use Rattle.rules_exchange.specs.Events.{field_of, exchange_due, tells_of, stamp_
 use Rattle.rules_watch.specs.declared.Drift.{Drift}
 use Rattle.rules_watch.specs.declared.judging.Outcome.{Outcome}
 use Rattle.rules_watch.specs.declared.judging.Outcome.TheVariants.{Refuse, Wipe, Take}
-use Rattle.rules_grants.specs.declared.notice.Notice.{Notice}
-use Rattle.rules_grants.specs.declared.grants.Grants.{Grants}
-use Rattle.rules_grants.specs.Grants.{full_of}
 use Rattle.rules_settings.specs.declared.Settings.{Settings}
 use Rattle.unit_core.specs.declared.calls.Call.{Call}
 use Rattle.unit_core.specs.declared.calls.Call.TheVariants.{Receive, Request, Sent, Time, Reset, Tick, Line, Show}
-use Rattle.unit_core.specs.declared.calls.Answer.TheVariants.{Signaled}
 use Rattle.unit_core.specs.Effects.{Stays, Progress, Effect, keeps, goes, takes, wipes, unless, with_now}
 use Rattle.unit_choosing.specs.Choosing.{time_due, admission, holds_by, chooses, admits, announces, time_passes}
 use Rattle.unit_measuring.specs.Measuring.{by_said, by_answer, exchanges}
@@ -42,7 +38,6 @@ use Rattle.unit_measuring.specs.Hearing.{two_step_in, hears_event, hears}
 use Rattle.unit_measuring.specs.Asking.{request_grounds, with_next_sequence, requests, sends}
 use Rattle.unit_ticking.specs.Ticking.{ticks}
 use Rattle.unit_ticking.proofs.Pulses.{by_test}
-use Rattle.unit_granting.specs.Granting.{ungranted_of, signaling_bars}
 use Rattle.unit.specs.Receiving.{receives}
 use Rattle.unit.specs.Calls.{effect_of}
 use Rattle.demands.specs.Words.{chosen_by, faulty_by}
@@ -56,7 +51,7 @@ Staying k now (wipes a m) = (m.now ≡ now) × (m.chosen ≡ chosen_by a k.chose
 
 -- the now that a call carries
 abbrev pub now_of : Call → ℕ → ℕ
-now_of (Receive now arrival m notice) before = now
+now_of (Receive now arrival m) before = now
 now_of (Request now room) before = now
 now_of (Sent now sequence t3) before = now
 now_of (Time now) before = now
@@ -80,9 +75,9 @@ module _ (s : Settings) (k : Stays) (r : Progress) where
   stays-admits t now (admissions.Renewed place) = stays-chooses t now
   stays-admits t now (admissions.Entered place) = stays-chooses t now
 
-  stays-announce : (t : Table) (now : ℕ) (m : Announce) (u : Bool) → Staying k now (announces s k r t now m u)
+  stays-announce : (t : Table) (now : ℕ) (m : Announce) → Staying k now (announces s k r t now m)
   unfolding announces
-  stays-announce t now m u = stays-admits (admission s k t now m u).table now (admission s k t now m u).answer
+  stays-announce t now m = stays-admits (admission s k t now m).table now (admission s k t now m).answer
 
   stays-time : (t : Table) (now : ℕ) → Staying k now (time_passes s k r t now)
   unfolding time_passes
@@ -98,17 +93,16 @@ module _ (s : Settings) (k : Stays) (r : Progress) where
   stays-exchanged : (now : ℕ) (v : Ruling) (a : Answered) → Staying k now (unless v (exchanges s (with_now now k) r a))
   stays-exchanged now v a = stays-unless now v (exchanges s (with_now now k) r a) (stays-answer now a.answer a.exchange)
 
-  stays-event : (now : ℕ) (h : Header) (field u : Bool) (e : Event) → Staying k now (hears_event s k r now h field u e)
-  stays-event now h field u e = stays-exchanged now (first_of (of_exchange (exchange_due r.exchange e (message_due s k now h field u)))) (tells_of r.exchange e)
+  stays-event : (now : ℕ) (h : Header) (field : Bool) (e : Event) → Staying k now (hears_event s k r now h field e)
+  stays-event now h field e = stays-exchanged now (first_of (of_exchange (exchange_due r.exchange e (message_due s k now h field)))) (tells_of r.exchange e)
 
-  stays-heard : (now : ℕ) (t2 : Stamp) (u : Bool) (h : Header) (b : Body) → Staying k now (hears s k r now t2 u h b)
+  stays-heard : (now : ℕ) (t2 : Stamp) (h : Header) (b : Body) → Staying k now (hears s k r now t2 h b)
   unfolding hears
-  stays-heard now t2 u h (bodies.Sync t1) = stays-event now h (field_in t2 (bodies.Sync t1)) u (sync (two_step_in h) h.sequence h.correction t1 t2)
-  stays-heard now t2 u h (bodies.DelayReq t) = tt
-  stays-heard now t2 u h (bodies.FollowUp t1) = stays-event now h (field_in t2 (bodies.FollowUp t1)) u (follow_up h.sequence h.correction t1)
-  stays-heard now t2 u h (bodies.DelayResp t4 p) = stays-event now h (field_in t2 (bodies.DelayResp t4 p)) u (delay_resp h.sequence h.correction t4 p s.own)
-  stays-heard now t2 u h (bodies.Announce t offer) = tt
-  stays-heard now t2 u h (bodies.Signaling target) = tt
+  stays-heard now t2 h (bodies.Sync t1) = stays-event now h (field_in t2 (bodies.Sync t1)) (sync (two_step_in h) h.sequence h.correction t1 t2)
+  stays-heard now t2 h (bodies.DelayReq t) = tt
+  stays-heard now t2 h (bodies.FollowUp t1) = stays-event now h (field_in t2 (bodies.FollowUp t1)) (follow_up h.sequence h.correction t1)
+  stays-heard now t2 h (bodies.DelayResp t4 p) = stays-event now h (field_in t2 (bodies.DelayResp t4 p)) (delay_resp h.sequence h.correction t4 p s.own)
+  stays-heard now t2 h (bodies.Announce t offer) = tt
 
   -- a request wipes nothing
   stays-asked : (now : ℕ) (v : Ruling) → Staying k now (unless v (exchanges s (with_next_sequence now k) r (tells_of r.exchange (requested k.sequence))))
@@ -132,21 +126,19 @@ module _ (s : Settings) (k : Stays) (r : Progress) where
   stays-tick (Take origin x) = tt
 
   -- ---- every call
-  stays-receive : (t : Table) (g : Grants) (now : ℕ) (t2 : Stamp) (n : Notice) (h : Header) (b : Body) → Staying k now (receives s k r t g now t2 n h b)
-  stays-receive t g now t2 n h (bodies.Announce stamp offer) = stays-announce t now (record { header = h; stamp = stamp; offer = offer }) (ungranted_of s g now h (bodies.Announce stamp offer))
-  stays-receive t g now t2 n h (bodies.DelayReq stamp) = stays-heard now t2 (ungranted_of s g now h (bodies.DelayReq stamp)) h (bodies.DelayReq stamp)
-  stays-receive t g now t2 n h (bodies.Sync t1) = stays-heard now t2 (ungranted_of s g now h (bodies.Sync t1)) h (bodies.Sync t1)
-  stays-receive t g now t2 n h (bodies.FollowUp t1) = stays-heard now t2 (ungranted_of s g now h (bodies.FollowUp t1)) h (bodies.FollowUp t1)
-  stays-receive t g now t2 n h (bodies.DelayResp t4 p) = stays-heard now t2 (ungranted_of s g now h (bodies.DelayResp t4 p)) h (bodies.DelayResp t4 p)
-  stays-receive t g now t2 n h (bodies.Signaling target) =
-      stays-unless now (signaling_bars s k now h target n (full_of g h.source now n)) (goes Signaled (with_now now k) r) tt
+  stays-receive : (t : Table) (now : ℕ) (t2 : Stamp) (h : Header) (b : Body) → Staying k now (receives s k r t now t2 h b)
+  stays-receive t now t2 h (bodies.Announce stamp offer) = stays-announce t now (record { header = h; stamp = stamp; offer = offer })
+  stays-receive t now t2 h (bodies.DelayReq stamp) = stays-heard now t2 h (bodies.DelayReq stamp)
+  stays-receive t now t2 h (bodies.Sync t1) = stays-heard now t2 h (bodies.Sync t1)
+  stays-receive t now t2 h (bodies.FollowUp t1) = stays-heard now t2 h (bodies.FollowUp t1)
+  stays-receive t now t2 h (bodies.DelayResp t4 p) = stays-heard now t2 h (bodies.DelayResp t4 p)
 
-  pub staying : (t : Table) (g : Grants) (count : ℕ) (pulse : ℤ → ℤ → Outcome) (d : Drift) (call : Call) → Staying k (now_of call k.now) (effect_of s k r t g count pulse d call)
-  staying t g count pulse d (Receive now arrival m n) = stays-receive t g now arrival n m.header m.body
-  staying t g count pulse d (Request now room) = stays-request now room
-  staying t g count pulse d (Sent now sequence t3) = stays-sent now sequence t3
-  staying t g count pulse d (Time now) = stays-time t now
-  staying t g count pulse d Reset = (refl, refl, refl, refl)
-  staying t g count pulse d (Tick reference clock) = stays-tick (pulse reference clock)
-  staying t g count pulse d Line = tt
-  staying t g count pulse d Show = tt
+  pub staying : (t : Table) (count : ℕ) (pulse : ℤ → ℤ → Outcome) (d : Drift) (call : Call) → Staying k (now_of call k.now) (effect_of s k r t count pulse d call)
+  staying t count pulse d (Receive now arrival m) = stays-receive t now arrival m.header m.body
+  staying t count pulse d (Request now room) = stays-request now room
+  staying t count pulse d (Sent now sequence t3) = stays-sent now sequence t3
+  staying t count pulse d (Time now) = stays-time t now
+  staying t count pulse d Reset = (refl, refl, refl, refl)
+  staying t count pulse d (Tick reference clock) = stays-tick (pulse reference clock)
+  staying t count pulse d Line = tt
+  staying t count pulse d Show = tt

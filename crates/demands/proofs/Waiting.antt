@@ -17,7 +17,7 @@ use Rattle.numbers.specs.Grounds.{first_of}
 use Rattle.numbers.specs.Orders.{none_due, due_with, of_handing, of_time}
 use Rattle.wire_layout.specs.declared.message.Read.{Read}
 use Rattle.wire_layout.specs.declared.message.Read.TheVariants as reads
-use Rattle.wire_layout.specs.Reading.{suffix_in, read_of}
+use Rattle.wire_layout.specs.Reading.{read_of}
 use Rattle.rules_masters.specs.declared.table.Table.{Table as Masters}
 use Rattle.rules_watch.specs.declared.settings.WatchSettings.{WatchSettings}
 use Rattle.rules_watch.specs.declared.window.Sample.{Sample}
@@ -31,7 +31,6 @@ use Rattle.rules_watch.specs.Window.{last_n}
 use Rattle.rules_watch.specs.Totals.{points, positions, points_of, line_through}
 use Rattle.rules_watch.specs.Rules.{Since, fresh_since, since_by, outcome, window_of}
 use Rattle.rules_watch.specs.Watch.{fresh_watch, since_of, taken_by, taken_of, next_watch, watch_line}
-use Rattle.rules_grants.specs.declared.grants.Grants.{Grants}
 use Rattle.rules_settings.specs.declared.Settings.{Settings}
 use Rattle.rules_watch.proofs.Outcomes.{line-is}
 use Rattle.rules_watch.proofs.Story.{Good, fresh-good, same_outcome, good-keeps, next-taken, good-line}
@@ -43,8 +42,8 @@ use Rattle.unit_ticking.specs.Ticking.{ticks, line_by}
 use Rattle.unit.specs.declared.Unit.{Unit}
 use Rattle.unit_handing.specs.declared.Asked.{Asked}
 use Rattle.unit_handing.specs.declared.Asked.TheVariants.{Barred, Asks}
-use Rattle.unit.specs.Calls.{watch_by, applied, unit_effect, unit_table, unit_grants, step_of}
-use Rattle.unit_handing.specs.Handing.{Handed, receive, request, sent, time, reset, tick, line, show, unless_barred, is_delay_req, notice_in, is_stray, message_asked, read_asked, time_asked, asked_of, stepped_by, served_of, served_all}
+use Rattle.unit.specs.Calls.{watch_by, applied, unit_effect, unit_table, step_of}
+use Rattle.unit_handing.specs.Handing.{Handed, receive, request, sent, time, reset, tick, line, show, unless_barred, is_delay_req, is_stray, message_asked, read_asked, time_asked, asked_of, stepped_by, served_of, served_all}
 use Rattle.unit.proofs.Fair.{Fair}
 use Rattle.unit.proofs.Fairly.{most, fair}
 use Rattle.door_loop.specs.Loop.{Table, counted_in}
@@ -81,7 +80,7 @@ module _ (t : WatchSettings) (k : ℕ) (w : Watch) (f : Few t k w) where
 
 -- ---- one call
 abbrev pulsing : Call → ℕ → ℕ
-pulsing (Receive now arrival m notice) n = n
+pulsing (Receive now arrival m) n = n
 pulsing (Request now room) n = n
 pulsing (Sent now sequence t3) n = n
 pulsing (Time now) n = n
@@ -98,7 +97,7 @@ module _ (c : Unit) (k : ℕ) (f : Few c.core.settings.watch k c.watch) where
   few-by call h = few-effect t k c.watch f (most c) (unit_effect c call) h
 
   few-call : (call : Call) → Few t (pulsing call k) (step_of c call).unit.watch
-  few-call (Receive now arrival m n) = few-by (Receive now arrival m n) (fair c (Receive now arrival m n))
+  few-call (Receive now arrival m) = few-by (Receive now arrival m) (fair c (Receive now arrival m))
   few-call (Request now room) = few-by (Request now room) (fair c (Request now room))
   few-call (Sent now sequence t3) = few-by (Sent now sequence t3) (fair c (Sent now sequence t3))
   few-call (Time now) = few-by (Time now) (fair c (Time now))
@@ -114,16 +113,14 @@ module _ (c : Unit) (k : ℕ) (f : Few c.core.settings.watch k c.watch) where
   few-ruled rulings.Clear call g = g
   few-ruled (rulings.Barred r) call g = f
 
-  few-read : (lent : ℕ) (octets : List ℕ) (r : Read) (now : ℕ) (arrival : Stamp) → Few t k (stepped_by c (read_asked lent octets r now arrival)).unit.watch
+  few-read : (lent : ℕ) (r : Read) (now : ℕ) (arrival : Stamp) → Few t k (stepped_by c (read_asked lent r now arrival)).unit.watch
   unfolding message_asked
-  few-read lent octets (reads.Refused r) now arrival = f
-  few-read lent octets (reads.Got m part) now arrival =
-      let call = Receive now arrival m (notice_in m.body (suffix_in octets)) in
-      few-ruled (first_of (of_handing (is_delay_req m.body) (is_stray lent))) call (few-call call)
+  few-read lent (reads.Refused r) now arrival = f
+  few-read lent (reads.Got m part) now arrival = few-ruled (first_of (of_handing (is_delay_req m.body) (is_stray lent))) (Receive now arrival m) (few-call (Receive now arrival m))
 
   few-served : (call : Handed ℕ) → Few t (counting call k) (served_of c call).unit.watch
   unfolding served_of asked_of time_asked
-  few-served (receive lent octets now arrival) = few-read lent octets (read_of octets) now arrival
+  few-served (receive lent octets now arrival) = few-read lent (read_of octets) now arrival
   few-served (request frame now) = few-call (Request now (length frame))
   few-served (sent now sequence t3) = few-call (Sent now sequence t3)
   few-served (time lent now) = few-ruled (first_of (of_time (due_with Outside (is_stray lent) none_due))) (Time now) (few-call (Time now))
@@ -133,15 +130,15 @@ module _ (c : Unit) (k : ℕ) (f : Few c.core.settings.watch k c.watch) where
   few-served show = few-call Show
 
 -- the settings are those that were set
-settings-by : (c : Unit) (x : Masters) (g : Grants) (e : Effect) → (applied c x g e).unit.core.settings ≡ c.core.settings
-settings-by c x g (keeps a) = refl
-settings-by c x g (goes a k r) = refl
-settings-by c x g (takes origin y) = refl
-settings-by c x g (wipes a k) = refl
+settings-by : (c : Unit) (x : Masters) (e : Effect) → (applied c x e).unit.core.settings ≡ c.core.settings
+settings-by c x (keeps a) = refl
+settings-by c x (goes a k r) = refl
+settings-by c x (takes origin y) = refl
+settings-by c x (wipes a k) = refl
 
 settings-asked : (c : Unit) (a : Asked) → (stepped_by c a).unit.core.settings ≡ c.core.settings
 settings-asked c (Barred r) = refl
-settings-asked c (Asks call) = settings-by c (unit_table c call) (unit_grants c call) (unit_effect c call)
+settings-asked c (Asks call) = settings-by c (unit_table c call) (unit_effect c call)
 
 pub settings-stay : (c : Unit) (call : Handed ℕ) → (served_of c call).unit.core.settings ≡ c.core.settings
 unfolding served_of

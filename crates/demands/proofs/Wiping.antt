@@ -1,7 +1,6 @@
 -- What an answer that says that it wiped leaves, and what any other leaves of the watch and of the count of wipes.
 use mathlib.Core.Path.{◌≡◌, refl, sym, subst, ◌∙◌}
 use mathlib.Core.Logic.{◌⊎◌, inl, inr}
-use mathlib.Core.List.{List}
 use mathlib.Core.Bool.{true, false}
 use Prim.Native.Nat.{ℕ}
 use native.Mathlib.Omega.{arith}
@@ -14,9 +13,8 @@ use Rattle.numbers.specs.Grounds.{first_of}
 use Rattle.numbers.specs.Orders.{none_due, due_with, of_handing, of_time}
 use Rattle.wire_layout.specs.declared.message.Read.{Read}
 use Rattle.wire_layout.specs.declared.message.Read.TheVariants as reads
-use Rattle.wire_layout.specs.Reading.{suffix_in, read_of}
+use Rattle.wire_layout.specs.Reading.{read_of}
 use Rattle.rules_masters.specs.declared.table.Table.{Table}
-use Rattle.rules_grants.specs.declared.grants.Grants.{Grants}
 use Rattle.rules_masters.specs.declared.chosen.Decision.TheVariants as decisions
 use Rattle.rules_exchange.specs.declared.said.Said.{Said}
 use Rattle.rules_exchange.specs.declared.said.Said.TheVariants.{Held, Paired, Asked, Stamped, Back, Neg, Long, Huge, HugeFaulty, Path, PathWiped, Step, Measured}
@@ -35,8 +33,8 @@ use Rattle.unit.specs.declared.Unit.{Unit}
 use Rattle.unit_handing.specs.declared.Asked.{Asked as Asking}
 use Rattle.unit_handing.specs.declared.Asked.TheVariants.{Barred, Asks}
 use Rattle.unit.specs.declared.Stepped.{Stepped}
-use Rattle.unit.specs.Calls.{applied, unit_effect, unit_table, unit_grants, step_of}
-use Rattle.unit_handing.specs.Handing.{Handed, receive, request, sent, time, reset, tick, line, show, unless_barred, is_delay_req, notice_in, is_stray, message_asked, read_asked, time_asked, asked_of, stepped_by, served_of}
+use Rattle.unit.specs.Calls.{applied, unit_effect, unit_table, step_of}
+use Rattle.unit_handing.specs.Handing.{Handed, receive, request, sent, time, reset, tick, line, show, unless_barred, is_delay_req, is_stray, message_asked, read_asked, time_asked, asked_of, stepped_by, served_of}
 use Rattle.unit.specs.Machine.{is_wipe}
 use Rattle.unit.proofs.Refusals.{never}
 use Rattle.unit.proofs.Faults.{faulty-lasts}
@@ -50,14 +48,14 @@ always : true ≡ false → ⊥
 always e = never (sym e)
 
 -- ---- by the effect
-module _ (c : Unit) (x : Table) (g : Grants) where
-  after-wiped : (e : Effect) → is_wipe e ≡ true → Emptied c.core.settings (applied c x g e).unit × ((applied c x g e).unit.core.domain.wipes ≡ one_more c.core.domain.wipes)
+module _ (c : Unit) (x : Table) where
+  after-wiped : (e : Effect) → is_wipe e ≡ true → Emptied c.core.settings (applied c x e).unit × ((applied c x e).unit.core.domain.wipes ≡ one_more c.core.domain.wipes)
   after-wiped (keeps a) h = absurd (never h)
   after-wiped (goes a k r) h = absurd (never h)
   after-wiped (takes origin y) h = absurd (never h)
   after-wiped (wipes a k) h = (record { run = refl; servo = refl; watch = refl }, refl)
 
-  after_kept : (e : Effect) → is_wipe e ≡ false → ((applied c x g e).unit.core.domain.wipes ≡ c.core.domain.wipes) × Grown c.core.settings c.watch (applied c x g e).unit.watch
+  after_kept : (e : Effect) → is_wipe e ≡ false → ((applied c x e).unit.core.domain.wipes ≡ c.core.domain.wipes) × Grown c.core.settings c.watch (applied c x e).unit.watch
   after_kept (keeps a) h = (refl, inl refl)
   after_kept (goes a k r) h = (refl, inl refl)
   after_kept (takes origin y) h = (refl, inr (origin, y, refl))
@@ -68,11 +66,11 @@ module _ (c : Unit) where
   pub wiped-by : (a : Asking) → wipes_of (stepped_by c a).answer ≡ true
       → Emptied c.core.settings (stepped_by c a).unit × ((stepped_by c a).unit.core.domain.wipes ≡ one_more c.core.domain.wipes)
   wiped-by (Barred r) h = absurd (never h)
-  wiped-by (Asks call) h = after-wiped c (unit_table c call) (unit_grants c call) (unit_effect c call) (sym (says-wiped c call) ∙ h)
+  wiped-by (Asks call) h = after-wiped c (unit_table c call) (unit_effect c call) (sym (says-wiped c call) ∙ h)
 
   pub kept_by : (a : Asking) → wipes_of (stepped_by c a).answer ≡ false → ((stepped_by c a).unit.core.domain.wipes ≡ c.core.domain.wipes) × Grown c.core.settings c.watch (stepped_by c a).unit.watch
   kept_by (Barred r) h = (refl, inl refl)
-  kept_by (Asks call) h = after_kept c (unit_table c call) (unit_grants c call) (unit_effect c call) (sym (says-wiped c call) ∙ h)
+  kept_by (Asks call) h = after_kept c (unit_table c call) (unit_effect c call) (sym (says-wiped c call) ∙ h)
 
   -- what stays
   abbrev Spared : Answer → ℕ → Unit → Type 0
@@ -80,16 +78,16 @@ module _ (c : Unit) where
       (d.core.now ≡ now) × (d.core.domain.chosen ≡ chosen_by a c.core.domain.chosen) × (d.core.domain.sequence ≡ c.core.domain.sequence)
       × (d.core.domain.faulty ≡ faulty_by a c.core.domain.faulty)
 
-  spared-by : (x : Table) (g : Grants) (now : ℕ) (e : Effect) → Staying (stays_of c.core) now e → is_wipe e ≡ true → Spared (applied c x g e).answer now (applied c x g e).unit
-  spared-by x g now (keeps a) f h = absurd (never h)
-  spared-by x g now (goes a k r) f h = absurd (never h)
-  spared-by x g now (takes origin y) f h = absurd (never h)
-  spared-by x g now (wipes a k) f h = f
+  spared-by : (x : Table) (now : ℕ) (e : Effect) → Staying (stays_of c.core) now e → is_wipe e ≡ true → Spared (applied c x e).answer now (applied c x e).unit
+  spared-by x now (keeps a) f h = absurd (never h)
+  spared-by x now (goes a k r) f h = absurd (never h)
+  spared-by x now (takes origin y) f h = absurd (never h)
+  spared-by x now (wipes a k) f h = f
 
   spares-call : (call : Call) → wipes_of (stepped_by c (Asks call)).answer ≡ true → Spared (stepped_by c (Asks call)).answer (now_of call c.core.now) (stepped_by c (Asks call)).unit
   spares-call call h =
-      spared-by (unit_table c call) (unit_grants c call) (now_of call c.core.now) (unit_effect c call)
-      (staying c.core.settings (stays_of c.core) (progress_of c.core c.servo) c.table c.grants c.core.domain.wipes
+      spared-by (unit_table c call) (now_of call c.core.now) (unit_effect c call)
+      (staying c.core.settings (stays_of c.core) (progress_of c.core c.servo) c.table c.core.domain.wipes
       (outcome c.core.settings.watch (since_of c.watch)) (watch_line c.core.settings.watch c.watch) call)
       (sym (says-wiped c call) ∙ h)
 
@@ -102,14 +100,14 @@ module _ (c : Unit) where
   carried-by rulings.Clear call = refl
   carried-by (rulings.Barred r) call = refl
 
-  carried-read : (lent : ℕ) (octets : List ℕ) (r : Read) (now : ℕ) (arrival : Stamp) → Carried (read_asked lent octets r now arrival) now
+  carried-read : (lent : ℕ) (r : Read) (now : ℕ) (arrival : Stamp) → Carried (read_asked lent r now arrival) now
   unfolding message_asked
-  carried-read lent octets (reads.Refused r) now arrival = refl
-  carried-read lent octets (reads.Got m part) now arrival = carried-by (first_of (of_handing (is_delay_req m.body) (is_stray lent))) (calls.Receive now arrival m (notice_in m.body (suffix_in octets)))
+  carried-read lent (reads.Refused r) now arrival = refl
+  carried-read lent (reads.Got m part) now arrival = carried-by (first_of (of_handing (is_delay_req m.body) (is_stray lent))) (calls.Receive now arrival m)
 
   carried : (call : Handed ℕ) → Carried (asked_of call) (now_in call c.core.now)
   unfolding asked_of time_asked
-  carried (receive lent octets now arrival) = carried-read lent octets (read_of octets) now arrival
+  carried (receive lent octets now arrival) = carried-read lent (read_of octets) now arrival
   carried (request frame now) = refl
   carried (sent now sequence t3) = refl
   carried (time lent now) = carried-by (first_of (of_time (due_with Outside (is_stray lent) none_due))) (calls.Time now)
@@ -133,15 +131,15 @@ module _ (c : Unit) where
   faulty-ruled f rulings.Clear call h = h
   faulty-ruled f (rulings.Barred r) call h = f
 
-  faulty-read : c.core.domain.faulty ≡ true → (lent : ℕ) (octets : List ℕ) (r : Read) (now : ℕ) (arrival : Stamp) → Faulty (stepped_by c (read_asked lent octets r now arrival))
+  faulty-read : c.core.domain.faulty ≡ true → (lent : ℕ) (r : Read) (now : ℕ) (arrival : Stamp) → Faulty (stepped_by c (read_asked lent r now arrival))
   unfolding message_asked
-  faulty-read f lent octets (reads.Refused r) now arrival = f
-  faulty-read f lent octets (reads.Got m part) now arrival =
-      faulty-ruled f (first_of (of_handing (is_delay_req m.body) (is_stray lent))) (calls.Receive now arrival m (notice_in m.body (suffix_in octets))) (faulty-lasts c f (calls.Receive now arrival m (notice_in m.body (suffix_in octets))) (λ e. let z : ◌≡◌ {A = ℕ} 0 1 = cc in absurd (omega arith)))
+  faulty-read f lent (reads.Refused r) now arrival = f
+  faulty-read f lent (reads.Got m part) now arrival =
+      faulty-ruled f (first_of (of_handing (is_delay_req m.body) (is_stray lent))) (calls.Receive now arrival m) (faulty-lasts c f (calls.Receive now arrival m) (λ e. let z : ◌≡◌ {A = ℕ} 0 1 = cc in absurd (omega arith)))
 
   pub faulty-stays : (call : Handed ℕ) → c.core.domain.faulty ≡ true → ((served_of c call).unit.core.domain.faulty ≡ true) ⊎ (call ≡ reset)
   unfolding served_of asked_of time_asked
-  faulty-stays (receive lent octets now arrival) f = inl (faulty-read f lent octets (read_of octets) now arrival)
+  faulty-stays (receive lent octets now arrival) f = inl (faulty-read f lent (read_of octets) now arrival)
   faulty-stays (request frame now) f = inl (faulty-lasts c f (calls.Request now (length frame)) (λ e. let z : ◌≡◌ {A = ℕ} 0 1 = cc in absurd (omega arith)))
   faulty-stays (sent now sequence t3) f = inl (faulty-lasts c f (calls.Sent now sequence t3) (λ e. let z : ◌≡◌ {A = ℕ} 0 1 = cc in absurd (omega arith)))
   faulty-stays (time lent now) f =
@@ -151,15 +149,15 @@ module _ (c : Unit) where
   faulty-stays line f = inl f
   faulty-stays show f = inl f
 
-  pub table-by : (x : Table) (g : Grants) (e : Effect) → (applied c x g e).unit.table ≡ x
-  table-by x g (keeps a) = refl
-  table-by x g (goes a k r) = refl
-  table-by x g (takes origin y) = refl
-  table-by x g (wipes a k) = refl
+  pub table-by : (x : Table) (e : Effect) → (applied c x e).unit.table ≡ x
+  table-by x (keeps a) = refl
+  table-by x (goes a k r) = refl
+  table-by x (takes origin y) = refl
+  table-by x (wipes a k) = refl
 
   pub table-found : (a : Asking) → (stepped_by c a).unit.table ≡ table_found c a
   table-found (Barred r) = refl
-  table-found (Asks call) = table-by (unit_table c call) (unit_grants c call) (unit_effect c call)
+  table-found (Asks call) = table-by (unit_table c call) (unit_effect c call)
 
 -- ---- the same at the door, where an answer is numbers
 said-words : (said : Said) (output : Ppb) → says_wiped (answer_words (answers.Exchange said output)) ≡ wipes_of (answers.Exchange said output)
@@ -190,7 +188,6 @@ wiped-words (answers.Watch pulses.Jump) = refl
 wiped-words answers.Wiped = refl
 wiped-words (answers.Line l n) = refl
 wiped-words (answers.Shows x) = refl
-wiped-words answers.Signaled = refl
 
 pub words-refused : (a : Answer) → is_refused (answer_words a) ≡ is_refusal a
 words-refused (answers.Refused r) = refl
@@ -201,4 +198,3 @@ words-refused (answers.Watch p) = pulse-speaks p
 words-refused answers.Wiped = refl
 words-refused (answers.Line l n) = refl
 words-refused (answers.Shows x) = refl
-words-refused answers.Signaled = refl

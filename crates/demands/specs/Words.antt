@@ -14,7 +14,7 @@ use Rattle.rules_settings.specs.declared.Settings.{Settings}
 use Rattle.rules_settings.specs.declared.Given.{Given}
 use Rattle.rules_settings.specs.Ranges.{as_given}
 use Rattle.unit_core.specs.declared.calls.Answer.{Answer}
-use Rattle.unit_core.specs.declared.calls.Answer.TheVariants.{Refused, Choice, Exchange, Watch, Wiped, Line, Shows, Signaled}
+use Rattle.unit_core.specs.declared.calls.Answer.TheVariants.{Refused, Choice, Exchange, Watch, Wiped, Line, Shows}
 use Rattle.unit.specs.declared.Unit.{Unit}
 use Rattle.unit_handing.specs.declared.Asked.{Asked}
 use Rattle.unit_handing.specs.declared.Asked.TheVariants.{Barred, Asks}
@@ -42,7 +42,6 @@ output_in (Watch p) = pos 0
 output_in Wiped = pos 0
 output_in (Line l n) = pos 0
 output_in (Shows x) = x.output.0
-output_in Signaled = pos 0
 
 -- ---- what stays over a wipe, by the answer
 -- the master that was chosen: the answer names a new one
@@ -54,7 +53,6 @@ chosen_by (Watch p) c = c
 chosen_by Wiped c = c
 chosen_by (Line l n) c = c
 chosen_by (Shows x) c = c
-chosen_by Signaled c = c
 
 -- FAULTY, which a reset alone ends
 abbrev pub faulty_by : Answer → Bool → Bool
@@ -65,7 +63,6 @@ faulty_by (Watch p) faulty = faulty
 faulty_by Wiped faulty = false
 faulty_by (Line l n) faulty = faulty
 faulty_by (Shows x) faulty = faulty
-faulty_by Signaled faulty = faulty
 
 -- the now that a call carries, else the one before
 abbrev pub now_in : {T : Type 0} → Handed T → ℕ → ℕ

@@ -4,27 +4,21 @@ ghost use Rattle.wire_layout.specs.Reading.{read_of};
 ghost use Rattle.unit_measuring.specs.Frame.{frame_after};
 ghost use Rattle.rules_exchange.specs.Events.{fresh_exchange};
 ghost use Rattle.door_records.specs.Unit.{delays_words, core_of};
-ghost use Rattle.wire_unicast.specs.Walk.{find_of};
 ghost use Rattle.door_words.specs.Messages.{read_words, message_by, written_by, left_words};
-ghost use Rattle.door_words.specs.Tlvs.{found_tlv, tlv_by, written_tlv, left_tlv};
-ghost use Rattle.door_words.specs.Grants.{next_words};
 ghost use Rattle.door_core.specs.Making.{made_of};
 ghost use Rattle.door_measuring.specs.Asking.{requested_of};
 ghost use Rattle.door_core.specs.Showing.{shown_of};
 ghost use Rattle.door_core.specs.Ticking.{lined_of};
-ghost use Rattle.door_loop.specs.Lending.{receive_of, grants_after, time_of, unit_asking, sent_of, reset_of, tick_of};
+ghost use Rattle.door_loop.specs.Lending.{receive_of, time_of, unit_asking, sent_of, reset_of, tick_of};
 
 use door_core::making::Made;
-use door_core::{making, showing, ticking, wiping};
+use door_core::{making, receiving, showing, ticking, wiping};
 use door_measuring::asking;
 use door_records::masters::MasterWords;
 use door_records::unit::UnitWords;
 use door_words::answers::AnswerWords;
-use door_words::grants::ShownWords;
 use door_words::messages::{MessageWords, WrittenWords};
-use door_words::tlvs::TlvWords;
 use numbers::stamp::Stamp;
-use rules_grants::grants::Grants;
 use rules_servo::Servo;
 use rules_settings::Given;
 use rules_watch::Watch;
@@ -32,9 +26,9 @@ use rules_watch::Watch;
 // The version that the header's macro has too.
 #[unsafe(no_mangle)]
 pub extern "C" fn sinezhab_version() -> u32
-    ensures { result ≡ 196_608 }
+    ensures { result ≡ 131_072 }
 {
-    196_608
+    131_072
 }
 
 // A message that is read from octets, or the number of its refusal.
@@ -58,32 +52,7 @@ pub extern "C" fn sinezhab_write(
     message.write(suffix, part)
 }
 
-// The first unicast TLV from a place on, of the octets behind a message's fixed part (rule 2.20).
-#[unsafe(no_mangle)]
-pub extern "C" fn sinezhab_walk(octets: &[u8], from: usize) -> TlvWords
-    ensures { result ≡ found_tlv (find_of octets.now from) }
-{
-    TlvWords::find(octets, from)
-}
-
-// A unicast TLV is written into the lent part, or nothing is (rule 2.21).
-#[unsafe(no_mangle)]
-pub extern "C" fn sinezhab_tlv(tlv: TlvWords, part: &mut [u8]) -> WrittenWords
-    ensures value { result ≡ written_tlv (tlv_by tlv) (length part.old) }
-    ensures part_after { part.new ≡ left_tlv (tlv_by tlv) part.old }
-{
-    tlv.write(part)
-}
-
-// Of the senders with a grant running the first above the last one shown; zeros are before all (rule 13.11).
-#[unsafe(no_mangle)]
-pub extern "C" fn sinezhab_grants(grants: Grants, time: u64, last: ShownWords) -> ShownWords
-    ensures { result ≡ next_words grants time last }
-{
-    last.next(grants, time)
-}
-
-// A fresh unit and its servo. Its table, its watch and its grants are all zeros.
+// A fresh unit and its servo. Its table and its watch are all zeros.
 #[unsafe(no_mangle)]
 pub extern "C" fn sinezhab_make(given: Given) -> Made
     ensures { result ≡ made_of given }
@@ -92,30 +61,42 @@ pub extern "C" fn sinezhab_make(given: Given) -> Made
 }
 
 // The octets of a message. Only an Announce reads the table (rule 12.12), of which it stores one place; the servo record is found updated (rules 8.9
-// and 12.11), and a wipe empties the watch. Only a Signaling stores the grants (rule 13.1). The octets stay as they are.
+// and 12.11), and a wipe empties the watch. The octets stay as they are.
 #[unsafe(no_mangle)]
 pub extern "C" fn sinezhab_receive(
     unit: &mut UnitWords,
     servo: &mut Servo,
     table: &mut [MasterWords],
     watch: &mut Watch,
-    grants: &mut Grants,
     octets: &mut [u8],
     time: u64,
     arrival: Stamp,
     answer: &mut AnswerWords,
 )
-    ensures { (answer.new ≡ (receive_of unit.old servo.old table.old watch.old grants.old octets.old time arrival).answer)
-        × (unit.new ≡ (receive_of unit.old servo.old table.old watch.old grants.old octets.old time arrival).unit)
-        × (servo.new ≡ (receive_of unit.old servo.old table.old watch.old grants.old octets.old time arrival).servo)
-        × (table.new ≡ (receive_of unit.old servo.old table.old watch.old grants.old octets.old time arrival).table)
-        × (watch.new ≡ (receive_of unit.old servo.old table.old watch.old grants.old octets.old time arrival).watch)
-        × (grants.new ≡ grants_after unit.old table.old grants.old octets.old time)
+    ensures { (answer.new ≡ (receive_of unit.old servo.old table.old watch.old octets.old time arrival).answer)
+        × (unit.new ≡ (receive_of unit.old servo.old table.old watch.old octets.old time arrival).unit)
+        × (servo.new ≡ (receive_of unit.old servo.old table.old watch.old octets.old time arrival).servo)
+        × (table.new ≡ (receive_of unit.old servo.old table.old watch.old octets.old time arrival).table)
+        × (watch.new ≡ (receive_of unit.old servo.old table.old watch.old octets.old time arrival).watch)
         × (octets.new ≡ octets.old) }
 {
-    door_receiving::message(
-        unit, servo, table, watch, grants, octets, time, arrival, answer,
-    );
+    let k = receiving::receive(octets);
+    let barred = k.barred;
+    if barred {
+        *answer = receiving::refused(k);
+        return;
+    }
+    let m = k.message;
+    let announces = k.announces;
+    if announces {
+        door_leaving::announce(unit, servo, table, watch, m, time, answer);
+        return;
+    }
+    if table.len() != 5 {
+        *answer = door_choosing::untabled();
+        return;
+    }
+    door_leaving::measure(unit, servo, watch, m, time, arrival, answer);
 }
 
 // The bare time call: the choice over the five records, which it leaves as they are.

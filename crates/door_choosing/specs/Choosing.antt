@@ -50,9 +50,8 @@ abbrev pub seat_unless : Ruling → Seat → Seated
 seat_unless (Barred n) p = numbered_by (Barred n) 0 false
 seat_unless Clear p = numbered_by p.ruling p.at p.known
 
--- whether it lacks its grant is told
-abbrev pub seat_by : SettingsWords → StateWords → Message → ℕ → (ungranted : Bool) → (a b c d e : Standing) → Seated
-seat_by s t m now ungranted a b c d e = seat_unless (barred_of (announce_in m) s.domain (own_in s) t.now now ungranted) (seat_of a b c d e)
+abbrev pub seat_by : SettingsWords → StateWords → Message → ℕ → (a b c d e : Standing) → Seated
+seat_by s t m now a b c d e = seat_unless (barred_of (announce_in m) s.domain (own_in s) t.now now) (seat_of a b c d e)
 
 -- the record that is stored there
 abbrev pub placed_of : MasterWords → Message → (known : Bool) → ℕ → MasterWords

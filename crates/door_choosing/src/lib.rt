@@ -115,22 +115,21 @@ fn numbered(p: Seat) -> Seated
     }
 }
 
-// The refusals that need no table, GRANT among them, and then the place among the five.
+// The refusals that need no table, and then the place among the five.
 pub fn seat_in(
     s: SettingsWords,
     t: StateWords,
     m: Message,
     now: u64,
-    ungranted: bool,
     a: Looked,
     b: Looked,
     c: Looked,
     d: Looked,
     e: Looked,
 ) -> Seated
-    ensures { result ≡ seat_by s t m now ungranted a.standing b.standing c.standing d.standing e.standing }
+    ensures { result ≡ seat_by s t m now a.standing b.standing c.standing d.standing e.standing }
 {
-    match barred(announce_in(m), s.domain, s.own(), t.now, now, ungranted) {
+    match barred(announce_in(m), s.domain, s.own(), t.now, now) {
         Ruling::Barred(number) => Seated {
             barred: true,
             number: number.number(),

@@ -1,4 +1,4 @@
-// The octets of a message, read and sorted: refused, an Announce, a Signaling, or one of the exchange.
+// The octets of a message, read and sorted: refused, an Announce, or one of the exchange.
 ghost use Rattle.std.specs.Prelude.{◌≡◌};
 ghost use Rattle.numbers.specs.Orders.{number_of};
 ghost use Rattle.wire_layout.specs.Reading.{read_of};
@@ -8,16 +8,14 @@ ghost use Rattle.door_core.specs.Receiving.{no_message, barred_message, taken_me
 use door_words::answers::AnswerWords;
 use numbers::refusal::Refusal;
 use rules_masters::record::Record;
-use wire_layout::message::{Body, Message, Part, Read};
+use wire_layout::message::{Body, Message, Read};
 
 #[derive(Drop)]
 pub struct Received {
     pub message: Message,
-    pub part: Part, // where its TLV suffix lies
     pub number: u8, // of the refusal, where it is barred
     pub barred: bool,
     pub announces: bool,
-    pub signals: bool,
 }
 
 // Zeros: no message.
@@ -39,39 +37,34 @@ fn bar(number: Refusal) -> Received
 {
     Received {
         message: none(),
-        part: Part { from: 0, to: 0 },
         number: number.number(),
         barred: true,
         announces: false,
-        signals: false,
     }
 }
 
-fn take(message: Message, part: Part, announces: bool, signals: bool) -> Received
-    ensures { result ≡ taken_message message part announces signals }
+fn take(message: Message, announces: bool) -> Received
+    ensures { result ≡ taken_message message announces }
 {
     Received {
         message,
-        part,
         number: 0,
         barred: false,
         announces,
-        signals,
     }
 }
 
 // A Delay_Req is no message for a slave.
-fn sort(m: Message, part: Part) -> Received
-    ensures { result ≡ sorted_by m part m.body }
+fn sort(m: Message) -> Received
+    ensures { result ≡ sorted_by m m.body }
 {
     let body = m.body;
     match body {
-        Body::Sync(_) => take(m, part, false, false),
+        Body::Sync(_) => take(m, false),
         Body::DelayReq(_) => bar(Refusal::Kind),
-        Body::FollowUp(_) => take(m, part, false, false),
-        Body::DelayResp(_, _) => take(m, part, false, false),
-        Body::Announce(_, _) => take(m, part, true, false),
-        Body::Signaling(_) => take(m, part, false, true),
+        Body::FollowUp(_) => take(m, false),
+        Body::DelayResp(_, _) => take(m, false),
+        Body::Announce(_, _) => take(m, true),
     }
 }
 
@@ -81,7 +74,7 @@ pub fn receive(octets: &mut [u8]) -> Received
 {
     match wire_reader::read(octets) {
         Read::Refused(number) => bar(number),
-        Read::Got(m, part) => sort(m, part),
+        Read::Got(m, _) => sort(m),
     }
 }
 

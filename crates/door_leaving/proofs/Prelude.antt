@@ -1,6 +1,6 @@
 -- Where the names stand that the walks cite, of the kit and of the laws of crate door_walk. Written by scripts/walks/walk.py.
 pub use mathlib.Core.Path.{◌≡◌, refl, sym, ap, subst, ◌∙◌}
-pub use mathlib.Core.Bool.{Bool, not}
+pub use mathlib.Core.Bool.{not}
 pub use Prim.Native.Nat.{ℕ, ◌+◌, ◌<◌, ◌^◌, ◌*◌}
 pub use mathlib.Core.List.{List, [], ◌∷◌}
 pub use native.Mathlib.Omega.{arith}

@@ -51,7 +51,7 @@ pub fn hold(
     }
 }
 
-// An Announce, of which it is told whether it lacks its grant: one place of the table is stored, and the choice is made over the five.
+// An Announce: one place of the table is stored, and the choice is made over the five.
 pub fn announce(
     unit: &mut UnitWords,
     servo: &mut Servo,
@@ -59,14 +59,13 @@ pub fn announce(
     watch: &mut Watch,
     m: Message,
     time: u64,
-    ungranted: bool,
     answer: &mut AnswerWords,
 )
-    ensures { (unit.new ≡ (announced_in unit.old servo.old table.old watch.old m time ungranted).unit)
-        × (servo.new ≡ (announced_in unit.old servo.old table.old watch.old m time ungranted).servo)
-        × (table.new ≡ (announced_in unit.old servo.old table.old watch.old m time ungranted).table)
-        × (watch.new ≡ (announced_in unit.old servo.old table.old watch.old m time ungranted).watch)
-        × (answer.new ≡ (announced_in unit.old servo.old table.old watch.old m time ungranted).answer) }
+    ensures { (unit.new ≡ (announced_in unit.old servo.old table.old watch.old m time).unit)
+        × (servo.new ≡ (announced_in unit.old servo.old table.old watch.old m time).servo)
+        × (table.new ≡ (announced_in unit.old servo.old table.old watch.old m time).table)
+        × (watch.new ≡ (announced_in unit.old servo.old table.old watch.old m time).watch)
+        × (answer.new ≡ (announced_in unit.old servo.old table.old watch.old m time).answer) }
 {
     if table.len() != 5 {
         *answer = door_choosing::untabled();
@@ -80,7 +79,7 @@ pub fn announce(
     let a2 = door_choosing::look(table[2], m, time, e);
     let a3 = door_choosing::look(table[3], m, time, e);
     let a4 = door_choosing::look(table[4], m, time, e);
-    let p = door_choosing::seat_in(s, t, m, time, ungranted, a0, a1, a2, a3, a4);
+    let p = door_choosing::seat_in(s, t, m, time, a0, a1, a2, a3, a4);
     let full = p.barred;
     if full {
         *answer = door_choosing::unseated(p);
@@ -101,19 +100,18 @@ pub fn measure(
     m: Message,
     time: u64,
     arrival: Stamp,
-    ungranted: bool,
     answer: &mut AnswerWords,
 )
-    ensures { (unit.new ≡ (heard_in unit.old servo.old [] watch.old m time arrival ungranted).unit)
-        × (servo.new ≡ (heard_in unit.old servo.old [] watch.old m time arrival ungranted).servo)
-        × (watch.new ≡ (heard_in unit.old servo.old [] watch.old m time arrival ungranted).watch)
-        × (answer.new ≡ (heard_in unit.old servo.old [] watch.old m time arrival ungranted).answer) }
+    ensures { (unit.new ≡ (heard_in unit.old servo.old [] watch.old m time arrival).unit)
+        × (servo.new ≡ (heard_in unit.old servo.old [] watch.old m time arrival).servo)
+        × (watch.new ≡ (heard_in unit.old servo.old [] watch.old m time arrival).watch)
+        × (answer.new ≡ (heard_in unit.old servo.old [] watch.old m time arrival).answer) }
 {
     let s = unit.settings;
     let t = unit.state;
     let h = unit.halves;
     let d = unit.delays;
-    let q = measuring::hear(s, t, h, d, m, time, arrival, ungranted);
+    let q = measuring::hear(s, t, h, d, m, time, arrival);
     let refuses = q.barred;
     if refuses {
         *answer = measuring::untold(q);

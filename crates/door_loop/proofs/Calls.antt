@@ -9,7 +9,7 @@ use Rattle.numbers.specs.declared.stamp.Stamp.{Stamp}
 use Rattle.numbers.specs.declared.ruling.Ruling.{Ruling}
 use Rattle.numbers.specs.declared.ruling.Ruling.TheVariants.{Clear, Barred}
 use Rattle.numbers.specs.Grounds.{first_of}
-use Rattle.numbers.specs.Orders.{number_of, of_exchange}
+use Rattle.numbers.specs.Orders.{of_exchange}
 use Rattle.wire_layout.specs.declared.message.Header.{Header}
 use Rattle.wire_layout.specs.declared.message.Body.{Body}
 use Rattle.rules_exchange.specs.declared.Answer.{Answer as Tells}
@@ -77,13 +77,13 @@ module _ (p : Parts) where
   abbrev pub held : Exchange
   held = exchange_in u.halves u.delays
 
-  -- by an effect that leaves the table and the grants as they are
+  -- by an effect that leaves the table as it is
   abbrev pub by : Effect → Meant
-  by e = stepped (applied c c.table c.grants e)
+  by e = stepped (applied c c.table e)
 
   -- ---- the exchange
   abbrev exchanged : Told → Meant
-  exchanged q = meant_in (from_lent p.grants (told_in u p.servo p.table p.watch q))
+  exchanged q = meant_in (from_lent (told_in u p.servo p.table p.watch q))
 
   said_same : (now : ℕ) (x : Exchange) (said : Said) → exchanged (spoken_told u.state now x said) ≡ by (by_said set (with_now now stays) progress x said)
   unfolding by_said
@@ -111,17 +111,17 @@ module _ (p : Parts) where
   unless-same now (Barred n) a = refl
 
   -- a call that is lent no table leaves it
-  turned_same : (q : Told) → meant_in (from_turned p p.grants (told_in u p.servo [] p.watch q)) ≡ exchanged q
+  turned_same : (q : Told) → meant_in (from_turned p (told_in u p.servo [] p.watch q)) ≡ exchanged q
   turned_same q = go q.barred
     where
       go : (b : Bool)
           → meant_in
-          (from_turned p p.grants
-          (cond b (says u p.servo [] p.watch (refusing (number_of q.refusal)))
+          (from_turned p
+          (cond b (says u p.servo [] p.watch (refusing q.number))
           (spoken_in u [] p.watch q (servo_after u.settings p.servo q.found q.steers q.wipes))))
           ≡ meant_in
-          (from_lent p.grants
-          (cond b (says u p.servo p.table p.watch (refusing (number_of q.refusal)))
+          (from_lent
+          (cond b (says u p.servo p.table p.watch (refusing q.number))
           (spoken_in u p.table p.watch q (servo_after u.settings p.servo q.found q.steers q.wipes))))
       go true = refl
       go false = refl
@@ -132,10 +132,10 @@ module _ (p : Parts) where
       turned_same (sent_told u.settings u.state u.halves u.delays now sequence t3) ∙ unless-same now (first_of (of_exchange (own_due stays now (field_of t3)))) (told held (leaves sequence t3))
       ∙ ap by (sym (unless-told set (with_now now stays) progress held (leaves sequence t3) (own_due stays now (field_of t3)) refl refl refl))
 
-  pub heard-same : (now : ℕ) (t2 : Stamp) (ungranted : Bool) (h : Header) (b : Body)
-      → exchanged (unless_told u.state (first_of (message_grounds set stays now t2 ungranted h b)) (told_by u.state now (handed held set.own t2 h b).answer (handed held set.own t2 h b).exchange))
-      ≡ by (unless (first_of (message_grounds set stays now t2 ungranted h b)) (exchanges set (with_now now stays) progress (handed held set.own t2 h b)))
-  heard-same now t2 ungranted h b = unless-same now (first_of (message_grounds set stays now t2 ungranted h b)) (handed held set.own t2 h b)
+  pub heard-same : (now : ℕ) (t2 : Stamp) (h : Header) (b : Body)
+      → exchanged (unless_told u.state (first_of (message_grounds set stays now t2 h b)) (told_by u.state now (handed held set.own t2 h b).answer (handed held set.own t2 h b).exchange))
+      ≡ by (unless (first_of (message_grounds set stays now t2 h b)) (exchanges set (with_now now stays) progress (handed held set.own t2 h b)))
+  heard-same now t2 h b = unless-same now (first_of (message_grounds set stays now t2 h b)) (handed held set.own t2 h b)
 
   -- ---- a request
   asked-same : (now : ℕ) (v : Ruling)
@@ -153,7 +153,6 @@ module _ (p : Parts) where
               servo = p.servo;
               table = p.table;
               watch = p.watch;
-              grants = p.grants;
             };
         answer = (requested_by u.state u.halves now v).answer;
         frame = [];
@@ -178,7 +177,7 @@ module _ (p : Parts) where
   unfolding lends means served_of asked_of
   ticked-same reference clock =
       every-outcome
-      (λ o. meant_in (from_turned p p.grants (ticked_in u p.servo (taken_by set.watch p.watch o) (ticked_by (took_of (taken_by set.watch p.watch o))))) ≡ by (ticks stays o))
+      (λ o. meant_in (from_turned p (ticked_in u p.servo (taken_by set.watch p.watch o) (ticked_by (took_of (taken_by set.watch p.watch o))))) ≡ by (ticks stays o))
       (λ n. refl) (λ a k. rw k) (λ origin x. rw (taken-wipes-not x.valid))
       set.watch (since_of p.watch) reference clock
 

@@ -67,28 +67,28 @@ module _ (p : Parts) where
 
   -- this master, or none, is held
   held_same : (t : List MasterWords) (now : ℕ) (m : Chosen)
-      → meant_in (from_lent p.grants (lent_by (u p) p.servo t p.watch (held_of (u p).state now m))) ≡ stepped (applied (c p) (tell t) p.grants (holds (stays p) (progress p) now m))
+      → meant_in (from_lent (lent_by (u p) p.servo t p.watch (held_of (u p).state now m))) ≡ stepped (applied (c p) (tell t) (holds (stays p) (progress p) now m))
   unfolding held_of
   held_same t now m = go (same_master_of (master_in (u p).state.chosen) m)
     where
       go : (b : Bool)
           → meant_in
-          (from_lent p.grants
+          (from_lent
           (lent_by (u p) p.servo t p.watch
           (held_by (u p).state now m (cond b (Same m) (Changed m)))))
-          ≡ stepped (applied (c p) (tell t) p.grants (holds_by (stays p) (progress p) now m (cond b (Same m) (Changed m))))
+          ≡ stepped (applied (c p) (tell t) (holds_by (stays p) (progress p) now m (cond b (Same m) (Changed m))))
       go true = rw (chosen-back m)
       go false = rw (chosen-back m)
 
   -- the choice over the table
   chose-same : (t : List MasterWords) (now : ℕ)
-      → meant_in (from_lent p.grants (lent_by (u p) p.servo t p.watch (held_of (u p).state now (chosen_in (u p) t now))))
-      ≡ stepped (applied (c p) (tell t) p.grants (chooses (settled p) (stays p) (progress p) (tell t) now))
+      → meant_in (from_lent (lent_by (u p) p.servo t p.watch (held_of (u p).state now (chosen_in (u p) t now))))
+      ≡ stepped (applied (c p) (tell t) (chooses (settled p) (stays p) (progress p) (tell t) now))
   unfolding chooses
   chose-same t now = rw (chosen-same t now) (held_same t now (chosen_at (map record_in t) now exponent))
 
   -- ---- an Announce
-  module _ (five : length p.table ≡ 5) (now : ℕ) (m : Message) (ungranted : Bool) where
+  module _ (five : length p.table ≡ 5) (now : ℕ) (m : Message) where
     abbrev announced : Announce
     announced = announce_in m
 
@@ -97,7 +97,7 @@ module _ (p : Parts) where
 
     -- what is found by the table's answer, and the table after it
     abbrev after : Admitted → Meant
-    after a = stepped (applied (c p) a.table p.grants (admits (settled p) (stays p) (progress p) a.table now a.answer))
+    after a = stepped (applied (c p) a.table (admits (settled p) (stays p) (progress p) a.table now a.answer))
 
     seat-same : seat_of (standing_at (u p) p.table m now 0) (standing_at (u p) p.table m now 1) (standing_at (u p) p.table m now 2) (standing_at (u p) p.table m now 3) (standing_at (u p) p.table m now 4)
         ≡ seat_in table.records m.header.source m.header.sequence now (interval_of exponent)
@@ -111,7 +111,7 @@ module _ (p : Parts) where
 
     -- by the seat
     seated-same : (v : Ruling) (at : ℕ) (known : Bool)
-        → meant_in (from_lent p.grants (seated_in (u p) p.servo p.table p.watch m now (numbered_by v at known)))
+        → meant_in (from_lent (seated_in (u p) p.servo p.table p.watch m now (numbered_by v at known)))
         ≡ after (settled_of (record { ruling = v; at = at; known = known }) table announced now)
     seated-same (Barred r) at known = refl
     seated-same Clear at true =
@@ -124,27 +124,27 @@ module _ (p : Parts) where
 
     -- and by the refusals that need no table
     ruled-same : (v : Ruling) (s : Seat)
-        → meant_in (from_lent p.grants (seated_in (u p) p.servo p.table p.watch m now (seat_unless v s))) ≡ after (admitted_by v table (settled_of s table announced now))
+        → meant_in (from_lent (seated_in (u p) p.servo p.table p.watch m now (seat_unless v s))) ≡ after (admitted_by v table (settled_of s table announced now))
     ruled-same Clear s = seated-same s.ruling s.at s.known
     ruled-same (Barred r) s = refl
 
-    pub announced-same : meant_in (from_lent p.grants (seated_in (u p) p.servo p.table p.watch m now (places.seat_in (u p) p.table m now ungranted)))
-        ≡ after (admission (settled p) (stays p) table now announced ungranted)
+    pub announced-same : meant_in (from_lent (seated_in (u p) p.servo p.table p.watch m now (places.seat_in (u p) p.table m now)))
+        ≡ after (admission (settled p) (stays p) table now announced)
     announced-same =
-        ruled-same (barred_of announced (settled p).domain (settled p).own (stays p).now now ungranted) _
-        ∙ ap (λ (s : Seat). after (admitted_by (barred_of announced (settled p).domain (settled p).own (stays p).now now ungranted) table (settled_of s table announced now))) seat-same
-        ∙ ap (λ (a : Admitted). after (admitted_by (barred_of announced (settled p).domain (settled p).own (stays p).now now ungranted) table a)) (seat-settles table announced (interval_of exponent) now (length-map p.table record_in ∙ five))
-        ∙ ap after (sym (admitted-parts table announced (settled p).domain (settled p).own exponent (stays p).now now ungranted))
+        ruled-same (barred_of announced (settled p).domain (settled p).own (stays p).now now) _
+        ∙ ap (λ (s : Seat). after (admitted_by (barred_of announced (settled p).domain (settled p).own (stays p).now now) table (settled_of s table announced now))) seat-same
+        ∙ ap (λ (a : Admitted). after (admitted_by (barred_of announced (settled p).domain (settled p).own (stays p).now now) table a)) (seat-settles table announced (interval_of exponent) now (length-map p.table record_in ∙ five))
+        ∙ ap after (sym (admitted-parts table announced (settled p).domain (settled p).own exponent (stays p).now now))
 
   -- ---- the bare time call
   pub passed-same : (now : ℕ)
-      → meant_in (from_lent p.grants (lent_by (u p) p.servo p.table p.watch (timed_of (u p).state now (chosen_in (u p) p.table now))))
+      → meant_in (from_lent (lent_by (u p) p.servo p.table p.watch (timed_of (u p).state now (chosen_in (u p) p.table now))))
       ≡ by p (time_passes (settled p) (stays p) (progress p) (c p).table now)
   unfolding time_passes
   passed-same now = go (first_of (of_time (time_due (u p).state.now now)))
     where
       go : (v : Ruling)
-          → meant_in (from_lent p.grants (lent_by (u p) p.servo p.table p.watch (held_unless (u p).state v (held_of (u p).state now (chosen_in (u p) p.table now)))))
+          → meant_in (from_lent (lent_by (u p) p.servo p.table p.watch (held_unless (u p).state v (held_of (u p).state now (chosen_in (u p) p.table now)))))
           ≡ by p (unless v (chooses (settled p) (stays p) (progress p) (c p).table now))
       go Clear = chose-same p.table now
       go (Barred n) = refl

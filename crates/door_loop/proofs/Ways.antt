@@ -1,6 +1,6 @@
 -- The ways through the door's calls: where a test came out so, what was stored and said is what the promise says. The walks cite these.
-use mathlib.Core.Path.{◌≡◌, refl, sym, ap, subst, ◌∙◌}
-use mathlib.Core.Bool.{Bool, true, false, not, cond, ◌&&◌}
+use mathlib.Core.Path.{◌≡◌, refl, sym, ap, ◌∙◌}
+use mathlib.Core.Bool.{Bool, true, false, not, cond}
 use mathlib.Core.List.{List, [], ◌∷◌}
 use Prim.Native.Nat.{ℕ, zero, suc, ◌<◌}
 use native.Mathlib.Omega.{arith}
@@ -8,16 +8,9 @@ use lib.Dec.{T as Holds, eqb}
 use lib.IntN.{ℤ}
 use lib.ListN.{length, get_or, set}
 use Rattle.numbers.specs.declared.stamp.Stamp.{Stamp}
-use Rattle.numbers.specs.Grounds.{first_of}
-use Rattle.numbers.specs.Orders.{number_of, of_signaling}
 use Rattle.numbers.specs.declared.ruling.Ruling.{Ruling}
 use Rattle.numbers.specs.declared.ruling.Ruling.TheVariants.{Clear, Barred}
-use Rattle.wire_layout.specs.declared.message.Body.{Body}
-use Rattle.wire_layout.specs.declared.message.Body.TheVariants as bodies
 use Rattle.wire_layout.specs.declared.message.Message.{Message}
-use Rattle.wire_layout.specs.declared.message.Part.{Part}
-use Rattle.wire_layout.specs.declared.message.Read.{Read}
-use Rattle.wire_layout.specs.declared.message.Read.TheVariants as reads
 use Rattle.wire_layout.specs.Reading.{read_of}
 use Rattle.rules_masters.specs.declared.candidate.Candidate.{Candidate}
 use Rattle.rules_masters.specs.declared.standing.Standing.{Standing}
@@ -25,10 +18,6 @@ use Rattle.rules_masters.specs.declared.standing.Seat.{Seat}
 use Rattle.rules_masters.specs.Records.{interval_of}
 use Rattle.rules_masters.specs.Inner.{barred_of, seat_of, candidate_of, best_of}
 use Rattle.rules_masters.proofs.Standings.{seat-small}
-use Rattle.rules_grants.specs.declared.grant.Service.{Service}
-use Rattle.rules_grants.specs.declared.grants.Grants.{Grants}
-use Rattle.rules_grants.specs.declared.notice.Notice.{Notice}
-use Rattle.rules_grants.specs.Grants.{runs_of, full_of, heeded_of}
 use Rattle.rules_servo.specs.declared.Servo.{Servo}
 use Rattle.rules_watch.specs.declared.Answer.{Answer}
 use Rattle.rules_watch.specs.declared.Answer.TheVariants.{Refused, Says}
@@ -36,22 +25,19 @@ use Rattle.rules_watch.specs.declared.Took.{Took}
 use Rattle.rules_watch.specs.declared.Watch.{Watch}
 use Rattle.rules_watch.specs.declared.window.Head.{Head}
 use Rattle.rules_watch.specs.Watch.{fresh_watch, taken_of, took_of}
-use Rattle.unit_granting.specs.Granting.{lacks_by, ungranted_by, signaling_due}
 use Rattle.door_records.specs.declared.unit.UnitWords.{UnitWords}
 use Rattle.door_records.specs.declared.unit.SettingsWords.{SettingsWords}
 use Rattle.door_records.specs.declared.unit.StateWords.{StateWords}
 use Rattle.door_records.specs.declared.masters.MasterWords.{MasterWords}
-use Rattle.door_records.specs.Parts.{is_set}
 use Rattle.door_records.specs.Unit.{watch_in, own_in}
 use Rattle.door_records.specs.Masters.{record_in}
 use Rattle.door_words.specs.declared.answers.AnswerWords.{AnswerWords}
-use Rattle.door_words.specs.Messages.{port_in}
-use Rattle.door_words.specs.Answers.{plain, refusing}
+use Rattle.door_words.specs.Answers.{refusing}
 use Rattle.door_core.specs.declared.receiving.Received.{Received}
 use Rattle.door_core.specs.declared.wiping.Emptied.{Emptied}
 use Rattle.door_core.specs.declared.ticking.Ticked.{Ticked}
 use Rattle.door_core.specs.Wiping.{wiped_state, reset_state, emptied_of}
-use Rattle.door_core.specs.Receiving.{received_by, sorted_by}
+use Rattle.door_core.specs.Receiving.{received_by}
 use Rattle.door_core.specs.Ticking.{ticked_with, ticked_by}
 use Rattle.door_choosing.specs.declared.Held.{Held}
 use Rattle.door_choosing.specs.declared.Seated.{Seated}
@@ -59,9 +45,7 @@ use Rattle.door_choosing.specs.declared.Looked.{Looked}
 use Rattle.door_choosing.specs.Choosing.{announce_in, looked_of, numbered_by, seat_by, seat_unless, best_with, held_of, timed_of, untabled_of}
 use Rattle.door_measuring.specs.declared.measuring.Told.{Told}
 use Rattle.door_measuring.specs.Measuring.{heard_told, servo_after, output_said}
-use Rattle.door_granting.specs.declared.Signaled.{Signaled}
-use Rattle.door_granting.specs.Granting.{noticed_in, signaled_by, answered_of}
-use Rattle.door_loop.specs.Lending.{Lent, says, with_state, unit_with, wiped_in, spoken_in, told_in, heard_in, lent_by, fresh_master, standing_at, candidate_at, chosen_in, placed_in, seated_in, seat_in, announced_in, signaled_in, signals_in, lacks_in, open_in, received_in, receive_of, grants_in, grants_after, time_of, reset_of, ticked_in, tick_of}
+use Rattle.door_loop.specs.Lending.{Lent, says, with_state, unit_with, wiped_in, spoken_in, told_in, heard_in, lent_by, fresh_master, standing_at, candidate_at, chosen_in, placed_in, seated_in, seat_in, announced_in, open_in, received_in, receive_of, time_of, reset_of, ticked_in, tick_of}
 
 -- ---- a test that held, or did not
 pub held-is : {X : Type 0} (t : Bool) (a b : X) → Holds t → a ≡ cond t a b
@@ -97,7 +81,7 @@ module _ (w : UnitWords) (s r : StateWords) (t : List MasterWords) (a : AnswerWo
 
 -- ---- the exchange
 module _ (w : UnitWords) (v : Servo) (t : List MasterWords) (y : Watch) (q : Told) where
-  pub told-refused : (a : AnswerWords) → a ≡ refusing (number_of q.refusal) → Holds q.barred → says w v t y a ≡ told_in w v t y q
+  pub told-refused : (a : AnswerWords) → a ≡ refusing q.number → Holds q.barred → says w v t y a ≡ told_in w v t y q
   told-refused a e z = ap (λ (b : AnswerWords). says w v t y b) e ∙ held-is q.barred _ _ z
 
   pub told-spoken : (n : Servo) (a : AnswerWords) (x : Watch)
@@ -117,16 +101,16 @@ module _ (w : UnitWords) (v : Servo) (t : List MasterWords) (y : Watch) (q : Tol
       n = servo_after w.settings v q.found q.steers q.wipes
 
       at : Bool → List MasterWords → Lent
-      at b l = cond b (says w v l y (refusing (number_of q.refusal))) (spoken_in w l y q n)
+      at b l = cond b (says w v l y (refusing q.number)) (spoken_in w l y q n)
 
       by : (b : Bool) → record { unit = (at b []).unit; servo = (at b []).servo; table = t; watch = (at b []).watch; answer = (at b []).answer } ≡ at b t
       by true = refl
       by false = refl
 
-pub heard-left : (w : UnitWords) (v : Servo) (t : List MasterWords) (y : Watch) (m : Message) (now : ℕ) (t2 : Stamp) (b : Bool) {u : UnitWords} {n : Servo} {x : Watch} {a : AnswerWords}
-    → (u ≡ (heard_in w v [] y m now t2 b).unit) × (n ≡ (heard_in w v [] y m now t2 b).servo) × (x ≡ (heard_in w v [] y m now t2 b).watch) × (a ≡ (heard_in w v [] y m now t2 b).answer)
-    → record { unit = u; servo = n; table = t; watch = x; answer = a } ≡ heard_in w v t y m now t2 b
-heard-left w v t y m now t2 b = told-left w v t y (heard_told w.settings w.state w.halves w.delays m now t2 b)
+pub heard-left : (w : UnitWords) (v : Servo) (t : List MasterWords) (y : Watch) (m : Message) (now : ℕ) (t2 : Stamp) {u : UnitWords} {n : Servo} {x : Watch} {a : AnswerWords}
+    → (u ≡ (heard_in w v [] y m now t2).unit) × (n ≡ (heard_in w v [] y m now t2).servo) × (x ≡ (heard_in w v [] y m now t2).watch) × (a ≡ (heard_in w v [] y m now t2).answer)
+    → record { unit = u; servo = n; table = t; watch = x; answer = a } ≡ heard_in w v t y m now t2
+heard-left w v t y m now t2 = told-left w v t y (heard_told w.settings w.state w.halves w.delays m now t2)
 
 -- ---- the choice
 module _ (w : UnitWords) (v : Servo) (t : List MasterWords) (y : Watch) (q : Held) where
@@ -152,8 +136,8 @@ best-is w t now n c0 c1 c2 c3 c4 e e0 e1 e2 e3 e4 = rw (e0, e1, e2, e3, e4, e)
 module _ (w : UnitWords) (t : List MasterWords) (m : Message) (now n : ℕ) (a0 a1 a2 a3 a4 : Looked) (e : n ≡ interval_of w.settings.announce)
     (e0 : a0 ≡ looked_of m now n (record_in (get_or t 0 fresh_master))) (e1 : a1 ≡ looked_of m now n (record_in (get_or t 1 fresh_master))) (e2 : a2 ≡ looked_of m now n (record_in (get_or t 2 fresh_master)))
     (e3 : a3 ≡ looked_of m now n (record_in (get_or t 3 fresh_master))) (e4 : a4 ≡ looked_of m now n (record_in (get_or t 4 fresh_master))) where
-  pub seat-is : (b : Bool) (p : Seated) → p ≡ seat_by w.settings w.state m now b a0.standing a1.standing a2.standing a3.standing a4.standing → p ≡ seat_in w t m now b
-  seat-is b p k = k ∙ rw (e0, e1, e2, e3, e4, e)
+  pub seat-is : (p : Seated) → p ≡ seat_by w.settings w.state m now a0.standing a1.standing a2.standing a3.standing a4.standing → p ≡ seat_in w t m now
+  seat-is p k = k ∙ rw (e0, e1, e2, e3, e4, e)
 
   -- and the choice once the record x is stored there
   pub placed-is : length t ≡ 5 → (at : ℕ) → at < 5 → (x : MasterWords)
@@ -184,8 +168,8 @@ unless-small : (v : Ruling) (p : Seat) → p.at < 5 → (seat_unless v p).at < 5
 unless-small Clear p h = seated-small p.ruling p.at p.known h
 unless-small (Barred n) p h = omega arith
 
-pub seat-within : (s : SettingsWords) (r : StateWords) (m : Message) (now : ℕ) (b : Bool) (a0 a1 a2 a3 a4 : Standing) → (seat_by s r m now b a0 a1 a2 a3 a4).at < 5
-seat-within s r m now b a0 a1 a2 a3 a4 = unless-small (barred_of (announce_in m) s.domain (own_in s) r.now now b) (seat_of a0 a1 a2 a3 a4) (seat-small a0 a1 a2 a3 a4)
+pub seat-within : (s : SettingsWords) (r : StateWords) (m : Message) (now : ℕ) (a0 a1 a2 a3 a4 : Standing) → (seat_by s r m now a0 a1 a2 a3 a4).at < 5
+seat-within s r m now a0 a1 a2 a3 a4 = unless-small (barred_of (announce_in m) s.domain (own_in s) r.now now) (seat_of a0 a1 a2 a3 a4) (seat-small a0 a1 a2 a3 a4)
 
 module _ (w : UnitWords) (v : Servo) (t : List MasterWords) (y : Watch) (m : Message) (now : ℕ) (p : Seated) where
   pub seat-refused : (a : AnswerWords) → a ≡ refusing p.number → Holds p.barred → says w v t y a ≡ seated_in w v t y m now p
@@ -194,122 +178,40 @@ module _ (w : UnitWords) (v : Servo) (t : List MasterWords) (y : Watch) (m : Mes
   pub seat-taken : Holds (not p.barred) → (l : List MasterWords) → l ≡ placed_in t m now p → lent_by w v l y (held_of w.state now (chosen_in w l now)) ≡ seated_in w v t y m now p
   seat-taken z l e = ap (λ (k : List MasterWords). lent_by w v k y (held_of w.state now (chosen_in w k now))) e ∙ left_is p.barred _ _ z
 
--- ---- an Announce, which lacks its grant or does not
-module _ (w : UnitWords) (v : Servo) (t : List MasterWords) (y : Watch) (m : Message) (now : ℕ) (b : Bool) where
-  pub announce-untabled : (a : AnswerWords) → a ≡ untabled_of → Holds (not (eqb (length t) 5)) → says w v t y a ≡ announced_in w v t y m now b
-  announce-untabled a e z = ap (λ (x : AnswerWords). says w v t y x) e ∙ left_is (eqb (length t) 5) _ _ z
+-- ---- an Announce
+module _ (w : UnitWords) (v : Servo) (t : List MasterWords) (y : Watch) (m : Message) (now : ℕ) where
+  pub announce-untabled : (a : AnswerWords) → a ≡ untabled_of → Holds (not (eqb (length t) 5)) → says w v t y a ≡ announced_in w v t y m now
+  announce-untabled a e z = ap (λ (b : AnswerWords). says w v t y b) e ∙ left_is (eqb (length t) 5) _ _ z
 
-  pub announce-is : Holds (not (not (eqb (length t) 5))) → (p : Seated) → p ≡ seat_in w t m now b → seated_in w v t y m now p ≡ announced_in w v t y m now b
+  pub announce-is : Holds (not (not (eqb (length t) 5))) → (p : Seated) → p ≡ seat_in w t m now → seated_in w v t y m now p ≡ announced_in w v t y m now
   announce-is good p e = ap (λ (x : Seated). seated_in w v t y m now x) e ∙ five-is (eqb (length t) 5) _ _ good
 
   pub announce-left : {u : UnitWords} {n : Servo} {l : List MasterWords} {x : Watch} {a : AnswerWords}
-      → (u ≡ (announced_in w v t y m now b).unit) × (n ≡ (announced_in w v t y m now b).servo) × (l ≡ (announced_in w v t y m now b).table) × (x ≡ (announced_in w v t y m now b).watch) × (a ≡ (announced_in w v t y m now b).answer)
-      → record { unit = u; servo = n; table = l; watch = x; answer = a } ≡ announced_in w v t y m now b
+      → (u ≡ (announced_in w v t y m now).unit) × (n ≡ (announced_in w v t y m now).servo) × (l ≡ (announced_in w v t y m now).table) × (x ≡ (announced_in w v t y m now).watch) × (a ≡ (announced_in w v t y m now).answer)
+      → record { unit = u; servo = n; table = l; watch = x; answer = a } ≡ announced_in w v t y m now
   announce-left e i = record { unit = e.0 i; servo = e.1 i; table = e.2 i; watch = e.3 i; answer = e.4 i }
 
--- ---- the grant that a message lacks: asked only where unicast is set
-pub lacks-not : (s : SettingsWords) (g : Grants) (m : Message) (now : ℕ) (b : Bool) → b ≡ is_set s.unicast → Holds (not b) → b ≡ lacks_in s g m now
-unfolding ungranted_by
-lacks-not s g m now true e z = absurd z
-lacks-not s g m now false e z = ap (λ (x : Bool). x && lacks_by (λ (k : Service). runs_of g m.header.source k now) m.body) e
-
--- ---- a Signaling that is refused, and one that is not
-module _ (w : UnitWords) (g : Grants) (o : List ℕ) (m : Message) (p : Part) (now : ℕ) (q : Signaled) (e : q ≡ signaled_in w g o m p now) where
-  pub signal-refused : (a : AnswerWords) → a ≡ refusing q.number → Holds q.barred
-      → (w ≡ with_state w (signaled_in w g o m p now).state) × (g ≡ (signaled_in w g o m p now).grants) × (a ≡ answered_of (signaled_in w g o m p now).number (signaled_in w g o m p now).barred)
-  signal-refused a f z =
-      let k = kept ruling (subst (λ (x : Signaled). Holds x.barred) e z) in
-      (ap (λ (t : StateWords). with_state w t) k.0, k.1, f ∙ held-is q.barred _ _ z ∙ ap (λ (x : Signaled). answered_of x.number x.barred) e)
-    where
-      n : Notice
-      n = noticed_in o p.from p.to
-
-      ruling : Ruling
-      ruling = first_of (of_signaling (signaling_due w.settings.domain (own_in w.settings) w.state.now now m.header (port_in m.body) n.spoiled (full_of g m.header.source now n)))
-
-      kept : (v : Ruling) → Holds (signaled_by w.state g (heeded_of g m.header.source now n) now v).barred
-          → (w.state ≡ (signaled_by w.state g (heeded_of g m.header.source now n) now v).state) × (g ≡ (signaled_by w.state g (heeded_of g m.header.source now n) now v).grants)
-      kept Clear h = absurd h
-      kept (Barred r) h = (refl, refl)
-
-  pub signal-heeded : (a : AnswerWords) → a ≡ plain 24 → Holds (not q.barred)
-      → (with_state w q.state ≡ with_state w (signaled_in w g o m p now).state) × (q.grants ≡ (signaled_in w g o m p now).grants) × (a ≡ answered_of (signaled_in w g o m p now).number (signaled_in w g o m p now).barred)
-  signal-heeded a f z =
-      (ap (λ (x : Signaled). with_state w x.state) e, ap (λ (x : Signaled). x.grants) e, f ∙ left_is q.barred _ _ z ∙ ap (λ (x : Signaled). answered_of x.number x.barred) e)
-
--- ---- what is the same in both cases
-same-both : {X : Type 0} (t : Bool) (x : X) → x ≡ cond t x x
-same-both true x = refl
-same-both false x = refl
-
 -- ---- a message
-module _ (w : UnitWords) (v : Servo) (t : List MasterWords) (y : Watch) (g : Grants) (o : List ℕ) (now : ℕ) (t2 : Stamp) (k : Received) (e : k ≡ received_by (read_of o)) where
-  received_is : received_in w v t y g o k now t2 ≡ receive_of w v t y g o now t2
-  received_is = ap (λ (x : Received). received_in w v t y g o x now t2) e
+module _ (w : UnitWords) (v : Servo) (t : List MasterWords) (y : Watch) (o : List ℕ) (now : ℕ) (t2 : Stamp) (k : Received) (e : k ≡ received_by (read_of o)) where
+  received_is : received_in w v t y k now t2 ≡ receive_of w v t y o now t2
+  received_is = ap (λ (x : Received). received_in w v t y x now t2) e
 
-  grants-are : grants_in w t g o k now ≡ grants_after w t g o now
-  grants-are = ap (λ (x : Received). grants_in w t g o x now) e
-
-  pub way-barred : (a : AnswerWords) → a ≡ refusing k.number → Holds k.barred → says w v t y a ≡ receive_of w v t y g o now t2
+  pub way-barred : (a : AnswerWords) → a ≡ refusing k.number → Holds k.barred → says w v t y a ≡ receive_of w v t y o now t2
   way-barred a f z = ap (λ (b : AnswerWords). says w v t y b) f ∙ held-is k.barred _ _ z ∙ received_is
 
-  pub grants-barred : Holds k.barred → g ≡ grants_after w t g o now
-  grants-barred z = held-is k.barred _ _ z ∙ grants-are
-
-  pub way-untabled : (a : AnswerWords) → a ≡ untabled_of → Holds (not k.barred) → Holds (not (eqb (length t) 5)) → says w v t y a ≡ receive_of w v t y g o now t2
+  pub way-untabled : (a : AnswerWords) → a ≡ untabled_of → Holds (not k.barred) → Holds (not (eqb (length t) 5)) → says w v t y a ≡ receive_of w v t y o now t2
   way-untabled a f z l = ap (λ (b : AnswerWords). says w v t y b) f ∙ left_is (eqb (length t) 5) _ _ l ∙ left_is k.barred _ _ z ∙ received_is
 
-  pub grants-untabled : Holds (not k.barred) → Holds (not (eqb (length t) 5)) → g ≡ grants_after w t g o now
-  grants-untabled z l = left_is (eqb (length t) 5) _ _ l ∙ left_is k.barred _ _ z ∙ grants-are
+  pub way-announced : Holds (not k.barred) → Holds k.announces → announced_in w v t y k.message now ≡ receive_of w v t y o now t2
+  way-announced z h =
+      ap (λ (x : Lent). cond (eqb (length t) 5) x (says w v t y untabled_of)) (held-is k.announces _ _ h) ∙ left_is k.barred _ _ z ∙ received_is
 
-  pub way-announced : (b : Bool) → b ≡ lacks_in w.settings g k.message now → Holds (not k.barred) → Holds k.announces → announced_in w v t y k.message now b ≡ receive_of w v t y g o now t2
-  way-announced b f z h =
-      ap (λ (x : Bool). announced_in w v t y k.message now x) f
-      ∙ ap (λ (x : Lent). cond (eqb (length t) 5) x (says w v t y untabled_of)) (held-is k.announces _ _ h) ∙ left_is k.barred _ _ z ∙ received_is
-
-  -- an Announce is no Signaling
-  announced-not : (r : Read) → Holds (received_by r).announces → Holds (not (received_by r).signals)
-  announced-not (reads.Refused n) h = absurd h
-  announced-not (reads.Got m part) h = by m.body h
-    where
-      by : (b : Body) → Holds (sorted_by m part b).announces → Holds (not (sorted_by m part b).signals)
-      by (bodies.Sync s) z = tt
-      by (bodies.DelayReq s) z = tt
-      by (bodies.FollowUp s) z = tt
-      by (bodies.DelayResp s x) z = tt
-      by (bodies.Announce s a) z = tt
-      by (bodies.Signaling x) z = absurd z
-
-  -- what is no Signaling leaves the grants
-  grants-left : Holds (not k.barred) → Holds (not k.signals) → g ≡ grants_after w t g o now
-  grants-left z h =
-      same-both (eqb (length t) 5) g ∙ ap (λ (x : Grants). cond (eqb (length t) 5) x g) (left_is k.signals _ _ h) ∙ left_is k.barred _ _ z ∙ grants-are
-
-  pub grants-announced : Holds (not k.barred) → Holds k.announces → g ≡ grants_after w t g o now
-  grants-announced z h =
-      grants-left z (subst (λ (x : Received). Holds (not x.signals)) (sym e) (announced-not (read_of o) (subst (λ (x : Received). Holds x.announces) e h)))
-
-  module _ (z : Holds (not k.barred)) (good : Holds (not (not (eqb (length t) 5)))) (h : Holds (not k.announces)) where
-    open_is : open_in w v t y g o k now t2 ≡ receive_of w v t y g o now t2
+  module _ (z : Holds (not k.barred)) (good : Holds (not (not (eqb (length t) 5)))) where
+    open_is : open_in w v t y k now t2 ≡ receive_of w v t y o now t2
     open_is = five-is (eqb (length t) 5) _ _ good ∙ left_is k.barred _ _ z ∙ received_is
 
-    pub way-heard : (b : Bool) → b ≡ lacks_in w.settings g k.message now → Holds (not k.signals) → heard_in w v t y k.message now t2 b ≡ receive_of w v t y g o now t2
-    way-heard b f l = ap (λ (x : Bool). heard_in w v t y k.message now t2 x) f ∙ left_is k.signals _ _ l ∙ left_is k.announces _ _ h ∙ open_is
-
-    pub grants-heard : Holds (not k.signals) → g ≡ grants_after w t g o now
-    grants-heard l = grants-left z l
-
-    -- a Signaling, where grants and octets were lent before and are as they were
-    module _ (l : Holds k.signals) {i : Grants} {j : List ℕ} (f : i ≡ g) (d : j ≡ o) where
-      pub way-signaled : {u : UnitWords} {a : AnswerWords} → u ≡ with_state w (signaled_in w i j k.message k.part now).state → a ≡ answered_of (signaled_in w i j k.message k.part now).number (signaled_in w i j k.message k.part now).barred → says u v t y a ≡ receive_of w v t y g o now t2
-      way-signaled p q =
-          (λ n. says (p n) v t y (q n)) ∙ (λ n. signals_in w v t y (signaled_in w (f n) (d n) k.message k.part now))
-          ∙ held-is k.signals _ _ l ∙ left_is k.announces _ _ h ∙ open_is
-
-      pub grants-signaled : {x : Grants} → x ≡ (signaled_in w i j k.message k.part now).grants → x ≡ grants_after w t g o now
-      grants-signaled q =
-          q ∙ (λ n. (signaled_in w (f n) (d n) k.message k.part now).grants)
-          ∙ held-is k.signals _ _ l ∙ five-is (eqb (length t) 5) _ _ good ∙ left_is k.barred _ _ z ∙ grants-are
+    pub way-heard : Holds (not k.announces) → heard_in w v t y k.message now t2 ≡ receive_of w v t y o now t2
+    way-heard h = left_is k.announces _ _ h ∙ open_is
 
 -- ---- the bare time call
 module _ (w : UnitWords) (v : Servo) (t : List MasterWords) (y : Watch) (now : ℕ) where

@@ -1,10 +1,8 @@
--- What a call leaves of the parts that it is lent, octet by octet: the unit, the servo record, the table, the watch, the grants; and its answer.
+-- What a call leaves of the parts that it is lent, octet by octet: the unit, the servo record, the table, the watch; and its answer.
 -- What is refused leaves the parts as they were.
-use Rattle.std.specs.Prelude.{Bool, cond, List, [], ℕ, eqb, ℤ, length, get_or, set}
+use Rattle.std.specs.Prelude.{cond, List, [], ℕ, eqb, ℤ, length, get_or, set}
 use Rattle.numbers.specs.declared.stamp.Stamp.{Stamp}
-use Rattle.numbers.specs.Orders.{number_of}
 use Rattle.wire_layout.specs.declared.message.Message.{Message}
-use Rattle.wire_layout.specs.declared.message.Part.{Part}
 use Rattle.wire_layout.specs.Reading.{read_of}
 use Rattle.rules_masters.specs.declared.chosen.Chosen.{Chosen}
 use Rattle.rules_masters.specs.declared.standing.Standing.{Standing}
@@ -12,22 +10,18 @@ use Rattle.rules_masters.specs.declared.candidate.Candidate.{Candidate}
 use Rattle.rules_masters.specs.Records.{interval_of, fresh_record}
 use Rattle.rules_masters.specs.Admitting.{standing_of}
 use Rattle.rules_masters.specs.Inner.{candidate_of, best_of}
-use Rattle.rules_grants.specs.declared.grants.Grants.{Grants}
 use Rattle.rules_servo.specs.declared.Servo.{Servo}
 use Rattle.rules_watch.specs.declared.Watch.{Watch}
 use Rattle.rules_watch.specs.declared.Taken.{Taken}
 use Rattle.rules_watch.specs.Watch.{fresh_watch, taken_of, took_of}
 use Rattle.door_records.specs.declared.unit.UnitWords.{UnitWords}
-use Rattle.door_records.specs.declared.unit.SettingsWords.{SettingsWords}
 use Rattle.door_records.specs.declared.unit.StateWords.{StateWords}
 use Rattle.door_records.specs.declared.exchange.HalvesWords.{HalvesWords}
 use Rattle.door_records.specs.declared.exchange.DelaysWords.{DelaysWords}
 use Rattle.door_records.specs.declared.masters.MasterWords.{MasterWords}
-use Rattle.unit_granting.specs.Granting.{ungranted_of}
-use Rattle.door_records.specs.Unit.{watch_in, settings_in}
+use Rattle.door_records.specs.Unit.{watch_in}
 use Rattle.door_records.specs.Masters.{record_in, master_words}
 use Rattle.door_words.specs.declared.answers.AnswerWords.{AnswerWords}
-use Rattle.door_words.specs.Messages.{port_in}
 use Rattle.door_words.specs.Answers.{plain, refusing}
 use Rattle.door_core.specs.declared.receiving.Received.{Received}
 use Rattle.door_core.specs.declared.wiping.Emptied.{Emptied}
@@ -41,10 +35,7 @@ use Rattle.door_choosing.specs.Choosing.{seat_by, placed_of, held_of, timed_of, 
 use Rattle.door_measuring.specs.declared.measuring.Told.{Told}
 use Rattle.door_measuring.specs.Measuring.{heard_told, sent_told, servo_after, output_said}
 use Rattle.door_measuring.specs.Asking.{requested_of}
-use Rattle.door_granting.specs.declared.Signaled.{Signaled}
-use Rattle.door_granting.specs.Granting.{noticed_in, signaled_of, answered_of}
 
--- all but the grants: one call alone changes these, and what it leaves of them is told by itself (grants_after)
 pub record Lent : Type 0 where
   pub unit : UnitWords
   pub servo : Servo
@@ -79,10 +70,10 @@ spoken_in u t w q n =
     }
 
 abbrev pub told_in : UnitWords → Servo → List MasterWords → Watch → Told → Lent
-told_in u v t w q = cond q.barred (says u v t w (refusing (number_of q.refusal))) (spoken_in u t w q (servo_after u.settings v q.found q.steers q.wipes))
+told_in u v t w q = cond q.barred (says u v t w (refusing q.number)) (spoken_in u t w q (servo_after u.settings v q.found q.steers q.wipes))
 
-abbrev pub heard_in : UnitWords → Servo → List MasterWords → Watch → Message → ℕ → Stamp → (ungranted : Bool) → Lent
-heard_in u v t w m now t2 ungranted = told_in u v t w (heard_told u.settings u.state u.halves u.delays m now t2 ungranted)
+abbrev pub heard_in : UnitWords → Servo → List MasterWords → Watch → Message → ℕ → Stamp → Lent
+heard_in u v t w m now t2 = told_in u v t w (heard_told u.settings u.state u.halves u.delays m now t2)
 
 -- ---- the choice
 abbrev pub lent_by : UnitWords → Servo → List MasterWords → Watch → Held → Lent
@@ -110,46 +101,26 @@ seated_in u v t w m now p =
     cond p.barred (says u v t w (refusing p.number))
     (lent_by u v (placed_in t m now p) w (held_of u.state now (chosen_in u (placed_in t m now p) now)))
 
-abbrev pub seat_in : UnitWords → List MasterWords → Message → ℕ → (ungranted : Bool) → Seated
-seat_in u t m now ungranted =
-    seat_by u.settings u.state m now ungranted (standing_at u t m now 0) (standing_at u t m now 1) (standing_at u t m now 2) (standing_at u t m now 3) (standing_at u t m now 4)
+abbrev pub seat_in : UnitWords → List MasterWords → Message → ℕ → Seated
+seat_in u t m now =
+    seat_by u.settings u.state m now (standing_at u t m now 0) (standing_at u t m now 1) (standing_at u t m now 2) (standing_at u t m now 3) (standing_at u t m now 4)
 
 -- 8 of a table that is not of five comes first
-abbrev pub announced_in : UnitWords → Servo → List MasterWords → Watch → Message → ℕ → (ungranted : Bool) → Lent
-announced_in u v t w m now ungranted = cond (eqb (length t) 5) (seated_in u v t w m now (seat_in u t m now ungranted)) (says u v t w untabled_of)
-
--- ---- a Signaling: now and the grants, or nothing
-abbrev pub signaled_in : UnitWords → Grants → List ℕ → Message → Part → ℕ → Signaled
-signaled_in u g octets m p now = signaled_of u.settings u.state g (noticed_in octets p.from p.to) m.header (port_in m.body) now
-
-abbrev pub signals_in : UnitWords → Servo → List MasterWords → Watch → Signaled → Lent
-signals_in u v t w q = says (with_state u q.state) v t w (answered_of q.number q.barred)
+abbrev pub announced_in : UnitWords → Servo → List MasterWords → Watch → Message → ℕ → Lent
+announced_in u v t w m now = cond (eqb (length t) 5) (seated_in u v t w m now (seat_in u t m now)) (says u v t w untabled_of)
 
 -- ---- a message: what is refused in reading and 3 of a Delay_Req come first, then 8 of a table that is not of five
--- it lacks the grant that it needs
-abbrev pub lacks_in : SettingsWords → Grants → Message → ℕ → Bool
-lacks_in s g m now = ungranted_of (settings_in s) g now m.header m.body
+abbrev pub open_in : UnitWords → Servo → List MasterWords → Watch → Received → ℕ → Stamp → Lent
+open_in u v t w k now t2 =
+    cond k.announces (seated_in u v t w k.message now (seat_in u t k.message now))
+    (heard_in u v t w k.message now t2)
 
-abbrev pub open_in : UnitWords → Servo → List MasterWords → Watch → Grants → List ℕ → Received → ℕ → Stamp → Lent
-open_in u v t w g octets k now t2 =
-    cond k.announces (seated_in u v t w k.message now (seat_in u t k.message now (lacks_in u.settings g k.message now)))
-    (cond k.signals (signals_in u v t w (signaled_in u g octets k.message k.part now))
-    (heard_in u v t w k.message now t2 (lacks_in u.settings g k.message now)))
+abbrev pub received_in : UnitWords → Servo → List MasterWords → Watch → Received → ℕ → Stamp → Lent
+received_in u v t w k now t2 =
+    cond k.barred (says u v t w (refusing k.number)) (cond (eqb (length t) 5) (open_in u v t w k now t2) (says u v t w untabled_of))
 
-abbrev pub received_in : UnitWords → Servo → List MasterWords → Watch → Grants → List ℕ → Received → ℕ → Stamp → Lent
-received_in u v t w g octets k now t2 =
-    cond k.barred (says u v t w (refusing k.number)) (cond (eqb (length t) 5) (open_in u v t w g octets k now t2) (says u v t w untabled_of))
-
-abbrev pub receive_of : UnitWords → Servo → List MasterWords → Watch → Grants → List ℕ → ℕ → Stamp → Lent
-receive_of u v t w g octets now t2 = received_in u v t w g octets (received_by (read_of octets)) now t2
-
--- the grants after it: as they were but for a Signaling with a table of five, which says itself what it leaves of them
-abbrev pub grants_in : UnitWords → List MasterWords → Grants → List ℕ → Received → ℕ → Grants
-grants_in u t g octets k now =
-    cond k.barred g (cond (eqb (length t) 5) (cond k.signals (signaled_in u g octets k.message k.part now).grants g) g)
-
-abbrev pub grants_after : UnitWords → List MasterWords → Grants → List ℕ → ℕ → Grants
-grants_after u t g octets now = grants_in u t g octets (received_by (read_of octets)) now
+abbrev pub receive_of : UnitWords → Servo → List MasterWords → Watch → List ℕ → ℕ → Stamp → Lent
+receive_of u v t w octets now t2 = received_in u v t w (received_by (read_of octets)) now t2
 
 abbrev pub time_of : UnitWords → Servo → List MasterWords → Watch → ℕ → Lent
 time_of u v t w now = cond (eqb (length t) 5) (lent_by u v t w (timed_of u.state now (chosen_in u t now))) (says u v t w untabled_of)

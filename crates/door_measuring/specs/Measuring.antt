@@ -4,9 +4,7 @@ use Rattle.numbers.specs.declared.stamp.Stamp.{Stamp}
 use Rattle.numbers.specs.declared.ruling.Ruling.{Ruling}
 use Rattle.numbers.specs.declared.ruling.Ruling.TheVariants.{Clear, Barred}
 use Rattle.numbers.specs.Grounds.{first_of}
-use Rattle.numbers.specs.declared.refusal.Refusal.{Refusal}
-use Rattle.numbers.specs.declared.refusal.Refusal.TheVariants.{Kind}
-use Rattle.numbers.specs.Orders.{of_exchange}
+use Rattle.numbers.specs.Orders.{number_of, of_exchange}
 use Rattle.wire_layout.specs.declared.message.Header.{Header}
 use Rattle.wire_layout.specs.declared.message.Body.{Body}
 use Rattle.wire_layout.specs.declared.message.Message.{Message}
@@ -34,15 +32,15 @@ use Rattle.door_measuring.specs.declared.measuring.Told.{Told}
 use Rattle.door_core.specs.Wiping.{wiped_state}
 
 -- a refusal: of the rest nothing is stored
-abbrev pub refused_told : StateWords → Refusal → Told
-refused_told t r =
+abbrev pub refused_told : StateWords → ℕ → Told
+refused_told t n =
     record {
       halves = halves_words fresh_exchange;
       delays = delays_words fresh_exchange;
       state = t;
       found = none_found;
       sequence = 0;
-      refusal = r;
+      number = n;
       code = 0;
       barred = true;
       wipes = false;
@@ -69,7 +67,7 @@ spoken_told t now x said =
       state = state_after t now said;
       found = found_in said;
       sequence = sequence_in said;
-      refusal = Kind;
+      number = 0;
       code = code_of said;
       barred = false;
       wipes = wipes_of said;
@@ -77,23 +75,20 @@ spoken_told t now x said =
     }
 
 abbrev pub told_by : StateWords → ℕ → Answer → Exchange → Told
-told_by t now (Refused r) x = refused_told t r
+told_by t now (Refused n) x = refused_told t (number_of n)
 told_by t now (Says said) x = spoken_told t now x said
 
 -- by the unit's refusals, or the exchange's answer
 abbrev pub unless_told : StateWords → Ruling → Told → Told
-unless_told t (Barred r) q = refused_told t r
+unless_told t (Barred n) q = refused_told t (number_of n)
 unless_told t Clear q = q
 
 module _ (s : SettingsWords) (t : StateWords) (h : HalvesWords) (d : DelaysWords) where
   abbrev pub handed_told : ℕ → Stamp → Header → Body → Told
   handed_told now t2 header body = told_by t now (handed (exchange_in h d) (own_in s) t2 header body).answer (handed (exchange_in h d) (own_in s) t2 header body).exchange
 
-  -- whether it lacks its grant is told
-  abbrev pub heard_told : Message → ℕ → Stamp → (ungranted : Bool) → Told
-  heard_told m now t2 ungranted =
-      unless_told t (first_of (message_grounds (settings_in s) (stays_of (core_of s t h d)) now t2 ungranted m.header m.body))
-      (handed_told now t2 m.header m.body)
+  abbrev pub heard_told : Message → ℕ → Stamp → Told
+  heard_told m now t2 = unless_told t (first_of (message_grounds (settings_in s) (stays_of (core_of s t h d)) now t2 m.header m.body)) (handed_told now t2 m.header m.body)
 
   abbrev pub sent_told : ℕ → ℕ → Stamp → Told
   sent_told now sequence t3 =

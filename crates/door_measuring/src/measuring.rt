@@ -31,16 +31,16 @@ pub struct Told {
     pub state: StateWords,
     pub found: Accepted,
     pub sequence: u16,
-    pub refusal: Refusal, // where it is barred
+    pub number: u8, // of the refusal, where it is barred
     pub code: u8, // of the answer
     pub barred: bool,
     pub wipes: bool,
     pub steers: bool,
 }
 
-// A refusal: nothing of the rest is stored.
-fn refuse(t: StateWords, refusal: Refusal) -> Told
-    ensures { result ≡ refused_told t refusal }
+// A refusal is its number: nothing of the rest is stored.
+fn refuse(t: StateWords, number: Refusal) -> Told
+    ensures { result ≡ refused_told t (number_of number) }
 {
     let fresh = Exchange::fresh();
     let found = Accepted {
@@ -54,7 +54,7 @@ fn refuse(t: StateWords, refusal: Refusal) -> Told
         state: t,
         found,
         sequence: 0,
-        refusal,
+        number: number.number(),
         code: 0,
         barred: true,
         wipes: false,
@@ -94,7 +94,6 @@ fn left(kp: u16, ki: u16, x: Exchange, said: Said) -> Exchange
     x
 }
 
-// Of the refusal, where there is none, nothing is looked at.
 fn speak(kp: u16, ki: u16, t: StateWords, now: u64, x: Exchange, said: Said) -> Told
     ensures { result ≡ spoken_told t now x said }
 {
@@ -105,7 +104,7 @@ fn speak(kp: u16, ki: u16, t: StateWords, now: u64, x: Exchange, said: Said) -> 
         state: after(t, now, said),
         found: said.found(),
         sequence: said.sequence(),
-        refusal: Refusal::Kind,
+        number: 0,
         code: said.code(),
         barred: false,
         wipes: said.wipes(),
@@ -164,11 +163,10 @@ fn hand(
         }
         Body::DelayReq(_) => refuse(t, Refusal::Kind),
         Body::Announce(_, _) => refuse(t, Refusal::Kind),
-        Body::Signaling(_) => refuse(t, Refusal::Kind),
     }
 }
 
-// A received message other than an Announce and a Signaling.
+// A received message other than an Announce.
 pub fn hear(
     s: SettingsWords,
     t: StateWords,
@@ -177,13 +175,12 @@ pub fn hear(
     m: Message,
     now: u64,
     t2: Stamp,
-    ungranted: bool,
 ) -> Told
-    ensures { result ≡ heard_told s t h d m now t2 ungranted }
+    ensures { result ≡ heard_told s t h d m now t2 }
 {
     let header = m.header;
     let body = m.body;
-    match message_barred(unit::told(s, t, h, d), now, t2, ungranted, header, body) {
+    match message_barred(unit::told(s, t, h, d), now, t2, header, body) {
         Ruling::Barred(number) => refuse(t, number),
         Ruling::Clear => hand(s, t, h, d, m, now, t2),
     }
@@ -211,12 +208,11 @@ pub fn send(
     }
 }
 
-// The answer where it is barred. Here alone the refusal becomes its number: in each case above by itself, the compiler did not put `tell` into its callers.
+// The answer where it is barred.
 pub fn untold(q: Told) -> AnswerWords
-    ensures { result ≡ refusing (number_of q.refusal) }
+    ensures { result ≡ refusing q.number }
 {
-    let refusal = q.refusal;
-    AnswerWords::refusing(refusal.number())
+    AnswerWords::refusing(q.number)
 }
 
 // A wipe restores the servo, an accepted offset steers it; else it is as it was.

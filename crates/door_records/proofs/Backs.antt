@@ -24,6 +24,9 @@ flag-back false = refl
 pub stamp-back : (t : Stamp) → stamp_in (stamp_words t) ≡ t
 stamp-back t = refl
 
+pub settings-back : (s : Settings) → settings_in (settings_words s) ≡ s
+settings-back s = refl
+
 pub header-back : (h : Header) → header_in (header_words h) ≡ h
 header-back h = refl
 
@@ -34,9 +37,6 @@ pub record-back : (r : Record) → record_in (master_words r) ≡ r
 record-back r = refl
 
 -- ---- and each flag is
-pub settings-back : (s : Settings) → settings_in (settings_words s) ≡ s
-settings-back s = rw (flag-back s.unicast)
-
 pub chosen-back : (c : Chosen) → chosen_in (chosen_words c) ≡ c
 chosen-back c = rw (flag-back c.some)
 
@@ -55,4 +55,4 @@ exchange-back x = rw (sync-back x.sync, request-back x.request, last-back x.last
 
 pub core-back : (c : Core) → core_in (unit_words c) ≡ c
 core-back c =
-    rw (settings-back c.settings, chosen-back c.domain.chosen, exchange-back c.domain.run.exchange, flag-back c.domain.run.measured, flag-back c.domain.faulty)
+    rw (chosen-back c.domain.chosen, exchange-back c.domain.run.exchange, flag-back c.domain.run.measured, flag-back c.domain.faulty)

@@ -35,7 +35,7 @@ own_in w = record { clock = w.clock; number = w.number }
 abbrev pub watch_in : SettingsWords → WatchSettings
 watch_in w = record { window = w.window; minimum = w.minimum; holdoff = w.holdoff; tolerance = w.tolerance; spike = w.spike; jump = w.jump }
 
--- .. and each has its own name; unicast is a flag
+-- .. and each has its own name
 abbrev pub settings_in : SettingsWords → Settings
 settings_in w =
     record {
@@ -47,7 +47,6 @@ settings_in w =
       ki = w.ki;
       limit = w.limit;
       watch = watch_in w;
-      unicast = is_set w.unicast;
     }
 
 abbrev pub settings_words : Settings → SettingsWords
@@ -67,7 +66,7 @@ settings_words s =
       window = s.watch.window;
       minimum = s.watch.minimum;
       holdoff = s.watch.holdoff;
-      unicast = flag s.unicast;
+      spare = 0;
     }
 
 -- ---- the Sync held, with two flags

@@ -3,7 +3,7 @@ ghost use Rattle.std.specs.Prelude.{◌≡◌};
 ghost use Rattle.door_records.specs.Unit.{chosen_in, chosen_words, own_in, watch_in, settings_in, settings_words, core_of, core_in, state_words, unit_words};
 
 use crate::exchange::{DelaysWords, HalvesWords};
-use crate::flags::{flag, flag16, flag32};
+use crate::flags::{flag, flag16};
 use numbers::units::Ppb;
 use rules_masters::chosen::Chosen;
 use rules_settings::Settings;
@@ -38,7 +38,7 @@ pub struct SettingsWords {
     pub window: u8,
     pub minimum: u8,
     pub holdoff: u8,
-    pub unicast: u32, // a flag
+    pub spare: u32,
 }
 
 #[repr(C)]
@@ -127,7 +127,6 @@ impl SettingsWords {
             ki: self.ki,
             limit,
             watch: self.watch(),
-            unicast: self.unicast != 0,
         }
     }
 
@@ -152,7 +151,7 @@ impl SettingsWords {
             window: watch.window,
             minimum: watch.minimum,
             holdoff: watch.holdoff,
-            unicast: flag32(s.unicast),
+            spare: 0,
         }
     }
 }

@@ -16,7 +16,6 @@ use prog.Routine.{Routine}
 use types.Logic.{Logic}
 use contract.Monad.{Fun}
 use types.Kit.{‵, ◌⊛◌, ◌$◌, ◌∵◌, !, qed, move, drop, split, join, fjoin, frame, done}
-use types.Run.{from}
 use denote.Laws.{Is}
 use denote.Slice.{slice_val}
 use denote.Steps.{owned, nothing}
@@ -28,7 +27,7 @@ use Rattle.door_walk.proofs.Plain.{of, row_of, Fits}
 use Rattle.door_walk.proofs.Walk.{lent, for-call, gives}
 use Rattle.door_walk.proofs.Rows.{slice, hands}
 use Rattle.door_walk.proofs.Called.{Called}
-use Rattle.door_walk.proofs.Types.{K-Accepted, K-AnswerWords, K-Candidate, K-DelaysWords, K-Emptied, K-Grants, K-HalvesWords, K-Head, K-Held, K-Looked, K-MasterWords, K-Message, K-Part, K-Received, K-Requested, K-Seated, K-Servo, K-SettingsWords, K-Signaled, K-Stamp, K-StateWords, K-Ticked, K-Told, K-UnitWords, K-bool, K-i32x128, K-i64, K-i64x128, K-u16, K-u32, K-u64, K-u8, K-u8x128}
+use Rattle.door_walk.proofs.Types.{K-Accepted, K-AnswerWords, K-Candidate, K-DelaysWords, K-Emptied, K-HalvesWords, K-Head, K-Held, K-Looked, K-MasterWords, K-Message, K-Received, K-Requested, K-Seated, K-Servo, K-SettingsWords, K-Stamp, K-StateWords, K-Ticked, K-Told, K-UnitWords, K-bool, K-i32x128, K-i64, K-i64x128, K-u16, K-u32, K-u64, K-u8, K-u8x128}
 use Rattle.door_choosing.specs.contracts.untabled as f-untabled
 use Rattle.door_choosing.specs.contracts.span as f-span
 use Rattle.door_choosing.specs.contracts.look as f-look
@@ -48,11 +47,6 @@ use Rattle.door_measuring.specs.contracts.measuring.send as f-send
 use Rattle.door_core.specs.contracts.ticking.line as f-line
 use Rattle.door_core.specs.contracts.receiving.receive as f-receive
 use Rattle.door_core.specs.contracts.receiving.refused as f-refused
-use Rattle.door_granting.specs.contracts.asks as f-asks
-use Rattle.door_granting.specs.contracts.ungranted as f-ungranted
-use Rattle.door_granting.specs.contracts.heed as f-heed
-use Rattle.door_granting.specs.contracts.unheeded as f-unheeded
-use Rattle.door_granting.specs.contracts.heeded as f-heeded
 use Rattle.door_measuring.specs.contracts.asking.request as f-request
 use Rattle.door_core.specs.contracts.wiping.reset as f-reset
 use Rattle.door_core.specs.contracts.wiping.wiped as f-wiped
@@ -66,7 +60,6 @@ use Rattle.door_words.specs.Answers.{refusing}
 use Rattle.door_choosing.specs.Choosing.{looked_of, seat_by, placed_of, best_with, held_of, untabled_of}
 use Rattle.rules_watch.specs.Watch.{fresh_watch}
 use Rattle.door_core.specs.Wiping.{emptied_of}
-use Rattle.numbers.specs.Orders.{number_of}
 use Rattle.door_measuring.specs.Measuring.{heard_told, servo_after, output_said}
 use Rattle.rules_watch.specs.Watch.{watch_with, fresh_watch, taken_of, took_of}
 use Rattle.door_records.specs.Unit.{watch_in}
@@ -77,16 +70,11 @@ use Rattle.door_core.specs.Ticking.{lined_of}
 use Rattle.wire_layout.specs.Reading.{read_of}
 use Rattle.door_core.specs.Receiving.{received_by}
 use Rattle.door_choosing.specs.Choosing.{untabled_of}
-use Rattle.unit_granting.specs.Granting.{ungranted_of}
-use Rattle.door_records.specs.Parts.{is_set}
-use Rattle.door_records.specs.Unit.{settings_in}
-use Rattle.door_words.specs.Messages.{port_in}
-use Rattle.door_words.specs.Answers.{plain as plain_words}
-use Rattle.door_granting.specs.Granting.{noticed_in, signaled_of}
 use Rattle.unit_measuring.specs.Frame.{frame_after}
 use Rattle.rules_exchange.specs.Events.{fresh_exchange}
 use Rattle.door_records.specs.Unit.{delays_words, core_of}
 use Rattle.door_measuring.specs.Asking.{requested_of}
+use Rattle.door_words.specs.Answers.{plain as plain_words}
 use Rattle.door_core.specs.Wiping.{reset_state, emptied_of}
 use Rattle.door_core.specs.Showing.{shown_of}
 use Rattle.rules_masters.specs.Inner.{candidate_of, best_of}
@@ -150,21 +138,6 @@ module _ {M : Type 1} {𝓤 : Ura M} (𝓛 : Logic 𝓤) (at_mem : Memory → SP
   abbrev pub C-refused : Contract 𝓤
   C-refused = triple_of 𝓛 f-refused.signature (f-refused.spec 𝓛 at_mem run)
 
-  abbrev pub C-asks : Contract 𝓤
-  C-asks = triple_of 𝓛 f-asks.signature (f-asks.spec 𝓛 at_mem run)
-
-  abbrev pub C-ungranted : Contract 𝓤
-  C-ungranted = triple_of 𝓛 f-ungranted.signature (f-ungranted.spec 𝓛 at_mem run)
-
-  abbrev pub C-heed : Contract 𝓤
-  C-heed = triple_of 𝓛 f-heed.signature (f-heed.spec 𝓛 at_mem run)
-
-  abbrev pub C-unheeded : Contract 𝓤
-  C-unheeded = triple_of 𝓛 f-unheeded.signature (f-unheeded.spec 𝓛 at_mem run)
-
-  abbrev pub C-heeded : Contract 𝓤
-  C-heeded = triple_of 𝓛 f-heeded.signature (f-heeded.spec 𝓛 at_mem run)
-
   abbrev pub C-request : Contract 𝓤
   C-request = triple_of 𝓛 f-request.signature (f-request.spec 𝓛 at_mem run)
 
@@ -193,8 +166,8 @@ module _ {M : Type 1} {𝓤 : Ura M} (𝓛 : Logic 𝓤) (at_mem : Memory → SP
   pub by-look : {x0 : (of K-MasterWords)} (g0 : Fits K-MasterWords x0) {x1 : (of K-Message)} (g1 : Fits K-Message x1) {x2 : ℕ} (g2 : Fits K-u64 x2) {x3 : ℕ} (g3 : Fits K-u32 x3) → Called 𝓛 (C-look 𝓛 at_mem run) ((tt, tt, tt, (x0, (x1, (x2, (x3, tt)))), (K-MasterWords.val x0 ∷ [], (K-Message.val x1 ∷ [], (K-u64.val x2 ∷ [], (K-u32.val x3 ∷ [], tt))))), tt) (‵ ftrue) K-Looked (‵ ftrue) (λ (ws : (Unit {0} × (Unit {0} × (Unit {0} × (Unit {0} × Unit {0}))))). ‵ (lasts f-look.ended tt (x0, (x1, (x2, (x3, tt)))) ws)) (λ r ws. r ≡ looked_of x1 x2 x3 (record_in x0))
   by-look {x0} g0 {x1} g1 {x2} g2 {x3} g3 = record { asks = qed 𝓛 ((‵ ftrue) ∷ []) ∵ nothing ! $ nothing ! $ owned ! (row_of K-u32) (Is (row_of K-u32)) (K-u32.makes 𝓛) x3 _ g3.is $ fjoin ! $ owned ! (row_of K-u64) (Is (row_of K-u64)) (K-u64.makes 𝓛) x2 _ g2.is $ fjoin ! $ owned ! (row_of K-Message) (Is (row_of K-Message)) (K-Message.makes 𝓛) x1 _ g1.is $ fjoin ! $ owned ! (row_of K-MasterWords) (Is (row_of K-MasterWords)) (K-MasterWords.makes 𝓛) x0 _ g0.is $ fjoin ! $ move ! (1 ∷ 0 ∷ []) $ join ! $ frame ! $ done !; says = λ w. id⊢ 𝓤 _ }
 
-  pub by-seat-in : {x0 : (of K-SettingsWords)} (g0 : Fits K-SettingsWords x0) {x1 : (of K-StateWords)} (g1 : Fits K-StateWords x1) {x2 : (of K-Message)} (g2 : Fits K-Message x2) {x3 : ℕ} (g3 : Fits K-u64 x3) {x4 : Bool} (g4 : Fits K-bool x4) {x5 : (of K-Looked)} (g5 : Fits K-Looked x5) {x6 : (of K-Looked)} (g6 : Fits K-Looked x6) {x7 : (of K-Looked)} (g7 : Fits K-Looked x7) {x8 : (of K-Looked)} (g8 : Fits K-Looked x8) {x9 : (of K-Looked)} (g9 : Fits K-Looked x9) → Called 𝓛 (C-seat-in 𝓛 at_mem run) ((tt, tt, tt, (x0, (x1, (x2, (x3, (x4, (x5, (x6, (x7, (x8, (x9, tt)))))))))), (K-SettingsWords.val x0 ∷ [], (K-StateWords.val x1 ∷ [], (K-Message.val x2 ∷ [], (K-u64.val x3 ∷ [], (K-bool.val x4 ∷ [], (K-Looked.val x5 ∷ [], (K-Looked.val x6 ∷ [], (K-Looked.val x7 ∷ [], (K-Looked.val x8 ∷ [], (K-Looked.val x9 ∷ [], tt))))))))))), tt) (‵ ftrue) K-Seated (‵ ftrue) (λ (ws : (Unit {0} × (Unit {0} × (Unit {0} × (Unit {0} × (Unit {0} × (Unit {0} × (Unit {0} × (Unit {0} × (Unit {0} × (Unit {0} × Unit {0}))))))))))). ‵ (lasts f-seat-in.ended tt (x0, (x1, (x2, (x3, (x4, (x5, (x6, (x7, (x8, (x9, tt)))))))))) ws)) (λ r ws. r ≡ seat_by x0 x1 x2 x3 x4 x5.standing x6.standing x7.standing x8.standing x9.standing)
-  by-seat-in {x0} g0 {x1} g1 {x2} g2 {x3} g3 {x4} g4 {x5} g5 {x6} g6 {x7} g7 {x8} g8 {x9} g9 = record { asks = qed 𝓛 ((‵ ftrue) ∷ []) ∵ nothing ! $ nothing ! $ owned ! (row_of K-Looked) (Is (row_of K-Looked)) (K-Looked.makes 𝓛) x9 _ g9.is $ fjoin ! $ owned ! (row_of K-Looked) (Is (row_of K-Looked)) (K-Looked.makes 𝓛) x8 _ g8.is $ fjoin ! $ owned ! (row_of K-Looked) (Is (row_of K-Looked)) (K-Looked.makes 𝓛) x7 _ g7.is $ fjoin ! $ owned ! (row_of K-Looked) (Is (row_of K-Looked)) (K-Looked.makes 𝓛) x6 _ g6.is $ fjoin ! $ owned ! (row_of K-Looked) (Is (row_of K-Looked)) (K-Looked.makes 𝓛) x5 _ g5.is $ fjoin ! $ owned ! (row_of K-bool) (Is (row_of K-bool)) (K-bool.makes 𝓛) x4 _ g4.is $ fjoin ! $ owned ! (row_of K-u64) (Is (row_of K-u64)) (K-u64.makes 𝓛) x3 _ g3.is $ fjoin ! $ owned ! (row_of K-Message) (Is (row_of K-Message)) (K-Message.makes 𝓛) x2 _ g2.is $ fjoin ! $ owned ! (row_of K-StateWords) (Is (row_of K-StateWords)) (K-StateWords.makes 𝓛) x1 _ g1.is $ fjoin ! $ owned ! (row_of K-SettingsWords) (Is (row_of K-SettingsWords)) (K-SettingsWords.makes 𝓛) x0 _ g0.is $ fjoin ! $ move ! (1 ∷ 0 ∷ []) $ join ! $ frame ! $ done !; says = λ w. id⊢ 𝓤 _ }
+  pub by-seat-in : {x0 : (of K-SettingsWords)} (g0 : Fits K-SettingsWords x0) {x1 : (of K-StateWords)} (g1 : Fits K-StateWords x1) {x2 : (of K-Message)} (g2 : Fits K-Message x2) {x3 : ℕ} (g3 : Fits K-u64 x3) {x4 : (of K-Looked)} (g4 : Fits K-Looked x4) {x5 : (of K-Looked)} (g5 : Fits K-Looked x5) {x6 : (of K-Looked)} (g6 : Fits K-Looked x6) {x7 : (of K-Looked)} (g7 : Fits K-Looked x7) {x8 : (of K-Looked)} (g8 : Fits K-Looked x8) → Called 𝓛 (C-seat-in 𝓛 at_mem run) ((tt, tt, tt, (x0, (x1, (x2, (x3, (x4, (x5, (x6, (x7, (x8, tt))))))))), (K-SettingsWords.val x0 ∷ [], (K-StateWords.val x1 ∷ [], (K-Message.val x2 ∷ [], (K-u64.val x3 ∷ [], (K-Looked.val x4 ∷ [], (K-Looked.val x5 ∷ [], (K-Looked.val x6 ∷ [], (K-Looked.val x7 ∷ [], (K-Looked.val x8 ∷ [], tt)))))))))), tt) (‵ ftrue) K-Seated (‵ ftrue) (λ (ws : (Unit {0} × (Unit {0} × (Unit {0} × (Unit {0} × (Unit {0} × (Unit {0} × (Unit {0} × (Unit {0} × (Unit {0} × Unit {0})))))))))). ‵ (lasts f-seat-in.ended tt (x0, (x1, (x2, (x3, (x4, (x5, (x6, (x7, (x8, tt))))))))) ws)) (λ r ws. r ≡ seat_by x0 x1 x2 x3 x4.standing x5.standing x6.standing x7.standing x8.standing)
+  by-seat-in {x0} g0 {x1} g1 {x2} g2 {x3} g3 {x4} g4 {x5} g5 {x6} g6 {x7} g7 {x8} g8 = record { asks = qed 𝓛 ((‵ ftrue) ∷ []) ∵ nothing ! $ nothing ! $ owned ! (row_of K-Looked) (Is (row_of K-Looked)) (K-Looked.makes 𝓛) x8 _ g8.is $ fjoin ! $ owned ! (row_of K-Looked) (Is (row_of K-Looked)) (K-Looked.makes 𝓛) x7 _ g7.is $ fjoin ! $ owned ! (row_of K-Looked) (Is (row_of K-Looked)) (K-Looked.makes 𝓛) x6 _ g6.is $ fjoin ! $ owned ! (row_of K-Looked) (Is (row_of K-Looked)) (K-Looked.makes 𝓛) x5 _ g5.is $ fjoin ! $ owned ! (row_of K-Looked) (Is (row_of K-Looked)) (K-Looked.makes 𝓛) x4 _ g4.is $ fjoin ! $ owned ! (row_of K-u64) (Is (row_of K-u64)) (K-u64.makes 𝓛) x3 _ g3.is $ fjoin ! $ owned ! (row_of K-Message) (Is (row_of K-Message)) (K-Message.makes 𝓛) x2 _ g2.is $ fjoin ! $ owned ! (row_of K-StateWords) (Is (row_of K-StateWords)) (K-StateWords.makes 𝓛) x1 _ g1.is $ fjoin ! $ owned ! (row_of K-SettingsWords) (Is (row_of K-SettingsWords)) (K-SettingsWords.makes 𝓛) x0 _ g0.is $ fjoin ! $ move ! (1 ∷ 0 ∷ []) $ join ! $ frame ! $ done !; says = λ w. id⊢ 𝓤 _ }
 
   pub by-unseated : {x0 : (of K-Seated)} (g0 : Fits K-Seated x0) → Called 𝓛 (C-unseated 𝓛 at_mem run) ((tt, tt, tt, (x0, tt), (K-Seated.val x0 ∷ [], tt)), tt) (‵ ftrue) K-AnswerWords (‵ ftrue) (λ (ws : (Unit {0} × Unit {0})). ‵ (lasts f-unseated.ended tt (x0, tt) ws)) (λ r ws. r ≡ refusing x0.number)
   by-unseated {x0} g0 = record { asks = qed 𝓛 ((‵ ftrue) ∷ []) ∵ nothing ! $ nothing ! $ owned ! (row_of K-Seated) (Is (row_of K-Seated)) (K-Seated.makes 𝓛) x0 _ g0.is $ fjoin ! $ move ! (1 ∷ 0 ∷ []) $ join ! $ frame ! $ done !; says = λ w. id⊢ 𝓤 _ }
@@ -211,10 +184,10 @@ module _ {M : Type 1} {𝓤 : Ura M} (𝓛 : Logic 𝓤) (at_mem : Memory → SP
   pub by-empty : (ν0 : ℕ) (δ0 : GName) (b0 o0 : ℕ) (x0 : (List ℤ)) (ν1 : ℕ) (δ1 : GName) (b1 o1 : ℕ) (x1 : (List ℤ)) (ν2 : ℕ) (δ2 : GName) (b2 o2 : ℕ) (x2 : (List ℕ)) → Called 𝓛 (C-empty 𝓛 at_mem run) (((ν0 ∷ [], (ν1 ∷ [], (ν2 ∷ [], tt))), (full_share, (full_share, (full_share, tt))), tt, ((record { ref_ptr = (b0, o0); ghost_name = δ0; now = x0 }), ((record { ref_ptr = (b1, o1); ghost_name = δ1; now = x1 }), ((record { ref_ptr = (b2, o2); ghost_name = δ2; now = x2 }), tt))), (vptr b0 o0 ∷ [], (vptr b1 o1 ∷ [], (vptr b2 o2 ∷ [], tt)))), tt) (‵ (lent K-i64x128 (for-call ν0 δ0 b0 o0) x0) ⊛ ‵ (lent K-i32x128 (for-call ν1 δ1 b1 o1) x1) ⊛ ‵ (lent K-u8x128 (for-call ν2 δ2 b2 o2) x2) ⊛ ‵ ftrue) K-Head (‵ (flft (ν0 ∷ []) full_share) ⊛ ‵ (flft (ν1 ∷ []) full_share) ⊛ ‵ (flft (ν2 ∷ []) full_share) ⊛ ‵ ftrue) (λ (ws : ((List ℤ) × ((List ℤ) × ((List ℕ) × Unit {0})))). ‵ (lasts f-empty.ended (ν0 ∷ [], (ν1 ∷ [], (ν2 ∷ [], tt))) ((record { ref_ptr = (b0, o0); ghost_name = δ0; now = x0 }), ((record { ref_ptr = (b1, o1); ghost_name = δ1; now = x1 }), ((record { ref_ptr = (b2, o2); ghost_name = δ2; now = x2 }), tt))) ws)) (λ r ws. (r ≡ fresh_watch.head) × (ws.0 ≡ fresh_watch.references) × (ws.1.0 ≡ fresh_watch.ys) × (ws.1.1.0 ≡ fresh_watch.marks))
   by-empty ν0 δ0 b0 o0 x0 ν1 δ1 b1 o1 x1 ν2 δ2 b2 o2 x2 = record { asks = qed 𝓛 ((‵ (lent K-i64x128 (for-call ν0 δ0 b0 o0) x0) ⊛ ‵ (lent K-i32x128 (for-call ν1 δ1 b1 o1) x1) ⊛ ‵ (lent K-u8x128 (for-call ν2 δ2 b2 o2) x2) ⊛ ‵ ftrue) ∷ []) ∵ split ! $ move ! (1 ∷ []) $ split ! $ move ! (1 ∷ []) $ split ! $ move ! (1 ∷ []) $ drop ! $ move ! (2 ∷ []) $ gives ! K-i64x128 (for-call ν0 δ0 b0 o0) x0 $ move ! (3 ∷ []) $ gives ! K-i32x128 (for-call ν1 δ1 b1 o1) x1 $ move ! (4 ∷ []) $ gives ! K-u8x128 (for-call ν2 δ2 b2 o2) x2 $ nothing ! $ move ! (2 ∷ 0 ∷ []) $ join ! $ move ! (3 ∷ 0 ∷ []) $ join ! $ move ! (4 ∷ 0 ∷ []) $ join ! $ nothing ! $ move ! (2 ∷ 0 ∷ []) $ fjoin ! $ move ! (2 ∷ 0 ∷ []) $ fjoin ! $ move ! (2 ∷ 0 ∷ []) $ fjoin ! $ move ! (1 ∷ 0 ∷ []) $ join ! $ frame ! $ done !; says = λ w. id⊢ 𝓤 _ }
 
-  pub by-hear : {x0 : (of K-SettingsWords)} (g0 : Fits K-SettingsWords x0) {x1 : (of K-StateWords)} (g1 : Fits K-StateWords x1) {x2 : (of K-HalvesWords)} (g2 : Fits K-HalvesWords x2) {x3 : (of K-DelaysWords)} (g3 : Fits K-DelaysWords x3) {x4 : (of K-Message)} (g4 : Fits K-Message x4) {x5 : ℕ} (g5 : Fits K-u64 x5) {x6 : (of K-Stamp)} (g6 : Fits K-Stamp x6) {x7 : Bool} (g7 : Fits K-bool x7) → Called 𝓛 (C-hear 𝓛 at_mem run) ((tt, tt, tt, (x0, (x1, (x2, (x3, (x4, (x5, (x6, (x7, tt)))))))), (K-SettingsWords.val x0 ∷ [], (K-StateWords.val x1 ∷ [], (K-HalvesWords.val x2 ∷ [], (K-DelaysWords.val x3 ∷ [], (K-Message.val x4 ∷ [], (K-u64.val x5 ∷ [], (K-Stamp.val x6 ∷ [], (K-bool.val x7 ∷ [], tt))))))))), tt) (‵ ftrue) K-Told (‵ ftrue) (λ (ws : (Unit {0} × (Unit {0} × (Unit {0} × (Unit {0} × (Unit {0} × (Unit {0} × (Unit {0} × (Unit {0} × Unit {0}))))))))). ‵ (lasts f-hear.ended tt (x0, (x1, (x2, (x3, (x4, (x5, (x6, (x7, tt)))))))) ws)) (λ r ws. r ≡ heard_told x0 x1 x2 x3 x4 x5 x6 x7)
-  by-hear {x0} g0 {x1} g1 {x2} g2 {x3} g3 {x4} g4 {x5} g5 {x6} g6 {x7} g7 = record { asks = qed 𝓛 ((‵ ftrue) ∷ []) ∵ nothing ! $ nothing ! $ owned ! (row_of K-bool) (Is (row_of K-bool)) (K-bool.makes 𝓛) x7 _ g7.is $ fjoin ! $ owned ! (row_of K-Stamp) (Is (row_of K-Stamp)) (K-Stamp.makes 𝓛) x6 _ g6.is $ fjoin ! $ owned ! (row_of K-u64) (Is (row_of K-u64)) (K-u64.makes 𝓛) x5 _ g5.is $ fjoin ! $ owned ! (row_of K-Message) (Is (row_of K-Message)) (K-Message.makes 𝓛) x4 _ g4.is $ fjoin ! $ owned ! (row_of K-DelaysWords) (Is (row_of K-DelaysWords)) (K-DelaysWords.makes 𝓛) x3 _ g3.is $ fjoin ! $ owned ! (row_of K-HalvesWords) (Is (row_of K-HalvesWords)) (K-HalvesWords.makes 𝓛) x2 _ g2.is $ fjoin ! $ owned ! (row_of K-StateWords) (Is (row_of K-StateWords)) (K-StateWords.makes 𝓛) x1 _ g1.is $ fjoin ! $ owned ! (row_of K-SettingsWords) (Is (row_of K-SettingsWords)) (K-SettingsWords.makes 𝓛) x0 _ g0.is $ fjoin ! $ move ! (1 ∷ 0 ∷ []) $ join ! $ frame ! $ done !; says = λ w. id⊢ 𝓤 _ }
+  pub by-hear : {x0 : (of K-SettingsWords)} (g0 : Fits K-SettingsWords x0) {x1 : (of K-StateWords)} (g1 : Fits K-StateWords x1) {x2 : (of K-HalvesWords)} (g2 : Fits K-HalvesWords x2) {x3 : (of K-DelaysWords)} (g3 : Fits K-DelaysWords x3) {x4 : (of K-Message)} (g4 : Fits K-Message x4) {x5 : ℕ} (g5 : Fits K-u64 x5) {x6 : (of K-Stamp)} (g6 : Fits K-Stamp x6) → Called 𝓛 (C-hear 𝓛 at_mem run) ((tt, tt, tt, (x0, (x1, (x2, (x3, (x4, (x5, (x6, tt))))))), (K-SettingsWords.val x0 ∷ [], (K-StateWords.val x1 ∷ [], (K-HalvesWords.val x2 ∷ [], (K-DelaysWords.val x3 ∷ [], (K-Message.val x4 ∷ [], (K-u64.val x5 ∷ [], (K-Stamp.val x6 ∷ [], tt)))))))), tt) (‵ ftrue) K-Told (‵ ftrue) (λ (ws : (Unit {0} × (Unit {0} × (Unit {0} × (Unit {0} × (Unit {0} × (Unit {0} × (Unit {0} × Unit {0})))))))). ‵ (lasts f-hear.ended tt (x0, (x1, (x2, (x3, (x4, (x5, (x6, tt))))))) ws)) (λ r ws. r ≡ heard_told x0 x1 x2 x3 x4 x5 x6)
+  by-hear {x0} g0 {x1} g1 {x2} g2 {x3} g3 {x4} g4 {x5} g5 {x6} g6 = record { asks = qed 𝓛 ((‵ ftrue) ∷ []) ∵ nothing ! $ nothing ! $ owned ! (row_of K-Stamp) (Is (row_of K-Stamp)) (K-Stamp.makes 𝓛) x6 _ g6.is $ fjoin ! $ owned ! (row_of K-u64) (Is (row_of K-u64)) (K-u64.makes 𝓛) x5 _ g5.is $ fjoin ! $ owned ! (row_of K-Message) (Is (row_of K-Message)) (K-Message.makes 𝓛) x4 _ g4.is $ fjoin ! $ owned ! (row_of K-DelaysWords) (Is (row_of K-DelaysWords)) (K-DelaysWords.makes 𝓛) x3 _ g3.is $ fjoin ! $ owned ! (row_of K-HalvesWords) (Is (row_of K-HalvesWords)) (K-HalvesWords.makes 𝓛) x2 _ g2.is $ fjoin ! $ owned ! (row_of K-StateWords) (Is (row_of K-StateWords)) (K-StateWords.makes 𝓛) x1 _ g1.is $ fjoin ! $ owned ! (row_of K-SettingsWords) (Is (row_of K-SettingsWords)) (K-SettingsWords.makes 𝓛) x0 _ g0.is $ fjoin ! $ move ! (1 ∷ 0 ∷ []) $ join ! $ frame ! $ done !; says = λ w. id⊢ 𝓤 _ }
 
-  pub by-untold : {x0 : (of K-Told)} (g0 : Fits K-Told x0) → Called 𝓛 (C-untold 𝓛 at_mem run) ((tt, tt, tt, (x0, tt), (K-Told.val x0 ∷ [], tt)), tt) (‵ ftrue) K-AnswerWords (‵ ftrue) (λ (ws : (Unit {0} × Unit {0})). ‵ (lasts f-untold.ended tt (x0, tt) ws)) (λ r ws. r ≡ refusing (number_of x0.refusal))
+  pub by-untold : {x0 : (of K-Told)} (g0 : Fits K-Told x0) → Called 𝓛 (C-untold 𝓛 at_mem run) ((tt, tt, tt, (x0, tt), (K-Told.val x0 ∷ [], tt)), tt) (‵ ftrue) K-AnswerWords (‵ ftrue) (λ (ws : (Unit {0} × Unit {0})). ‵ (lasts f-untold.ended tt (x0, tt) ws)) (λ r ws. r ≡ refusing x0.number)
   by-untold {x0} g0 = record { asks = qed 𝓛 ((‵ ftrue) ∷ []) ∵ nothing ! $ nothing ! $ owned ! (row_of K-Told) (Is (row_of K-Told)) (K-Told.makes 𝓛) x0 _ g0.is $ fjoin ! $ move ! (1 ∷ 0 ∷ []) $ join ! $ frame ! $ done !; says = λ w. id⊢ 𝓤 _ }
 
   pub by-steer : {x0 : (of K-Servo)} (g0 : Fits K-Servo x0) {x1 : (of K-SettingsWords)} (g1 : Fits K-SettingsWords x1) {x2 : (of K-Accepted)} (g2 : Fits K-Accepted x2) {x3 : Bool} (g3 : Fits K-bool x3) {x4 : Bool} (g4 : Fits K-bool x4) → Called 𝓛 (C-steer 𝓛 at_mem run) ((tt, tt, tt, (x0, (x1, (x2, (x3, (x4, tt))))), (K-Servo.val x0 ∷ [], (K-SettingsWords.val x1 ∷ [], (K-Accepted.val x2 ∷ [], (K-bool.val x3 ∷ [], (K-bool.val x4 ∷ [], tt)))))), tt) (‵ ftrue) K-Servo (‵ ftrue) (λ (ws : (Unit {0} × (Unit {0} × (Unit {0} × (Unit {0} × (Unit {0} × Unit {0})))))). ‵ (lasts f-steer.ended tt (x0, (x1, (x2, (x3, (x4, tt))))) ws)) (λ r ws. r ≡ servo_after x1 x0 x2 x3 x4)
@@ -240,21 +213,6 @@ module _ {M : Type 1} {𝓤 : Ura M} (𝓛 : Logic 𝓤) (at_mem : Memory → SP
 
   pub by-refused : {x0 : (of K-Received)} (g0 : Fits K-Received x0) → Called 𝓛 (C-refused 𝓛 at_mem run) ((tt, tt, tt, (x0, tt), (K-Received.val x0 ∷ [], tt)), tt) (‵ ftrue) K-AnswerWords (‵ ftrue) (λ (ws : (Unit {0} × Unit {0})). ‵ (lasts f-refused.ended tt (x0, tt) ws)) (λ r ws. r ≡ refusing x0.number)
   by-refused {x0} g0 = record { asks = qed 𝓛 ((‵ ftrue) ∷ []) ∵ nothing ! $ nothing ! $ owned ! (row_of K-Received) (Is (row_of K-Received)) (K-Received.makes 𝓛) x0 _ g0.is $ fjoin ! $ move ! (1 ∷ 0 ∷ []) $ join ! $ frame ! $ done !; says = λ w. id⊢ 𝓤 _ }
-
-  pub by-asks : {x0 : (of K-SettingsWords)} (g0 : Fits K-SettingsWords x0) → Called 𝓛 (C-asks 𝓛 at_mem run) ((tt, tt, tt, (x0, tt), (K-SettingsWords.val x0 ∷ [], tt)), tt) (‵ ftrue) K-bool (‵ ftrue) (λ (ws : (Unit {0} × Unit {0})). ‵ (lasts f-asks.ended tt (x0, tt) ws)) (λ r ws. r ≡ is_set x0.unicast)
-  by-asks {x0} g0 = record { asks = qed 𝓛 ((‵ ftrue) ∷ []) ∵ nothing ! $ nothing ! $ owned ! (row_of K-SettingsWords) (Is (row_of K-SettingsWords)) (K-SettingsWords.makes 𝓛) x0 _ g0.is $ fjoin ! $ move ! (1 ∷ 0 ∷ []) $ join ! $ frame ! $ done !; says = λ w. id⊢ 𝓤 _ }
-
-  pub by-ungranted : {x0 : (of K-SettingsWords)} (g0 : Fits K-SettingsWords x0) {x1 : (of K-Grants)} (g1 : Fits K-Grants x1) {x2 : (of K-Message)} (g2 : Fits K-Message x2) {x3 : ℕ} (g3 : Fits K-u64 x3) → Called 𝓛 (C-ungranted 𝓛 at_mem run) ((tt, tt, tt, (x0, (x1, (x2, (x3, tt)))), (K-SettingsWords.val x0 ∷ [], (K-Grants.val x1 ∷ [], (K-Message.val x2 ∷ [], (K-u64.val x3 ∷ [], tt))))), tt) (‵ ftrue) K-bool (‵ ftrue) (λ (ws : (Unit {0} × (Unit {0} × (Unit {0} × (Unit {0} × Unit {0}))))). ‵ (lasts f-ungranted.ended tt (x0, (x1, (x2, (x3, tt)))) ws)) (λ r ws. r ≡ ungranted_of (settings_in x0) x1 x3 x2.header x2.body)
-  by-ungranted {x0} g0 {x1} g1 {x2} g2 {x3} g3 = record { asks = qed 𝓛 ((‵ ftrue) ∷ []) ∵ nothing ! $ nothing ! $ owned ! (row_of K-u64) (Is (row_of K-u64)) (K-u64.makes 𝓛) x3 _ g3.is $ fjoin ! $ owned ! (row_of K-Message) (Is (row_of K-Message)) (K-Message.makes 𝓛) x2 _ g2.is $ fjoin ! $ owned ! (row_of K-Grants) (Is (row_of K-Grants)) (K-Grants.makes 𝓛) x1 _ g1.is $ fjoin ! $ owned ! (row_of K-SettingsWords) (Is (row_of K-SettingsWords)) (K-SettingsWords.makes 𝓛) x0 _ g0.is $ fjoin ! $ move ! (1 ∷ 0 ∷ []) $ join ! $ frame ! $ done !; says = λ w. id⊢ 𝓤 _ }
-
-  pub by-heed : {x0 : (of K-SettingsWords)} (g0 : Fits K-SettingsWords x0) {x1 : (of K-StateWords)} (g1 : Fits K-StateWords x1) {x2 : (of K-Grants)} (g2 : Fits K-Grants x2) (ν3 : ℕ) (δ3 : GName) (b3 o3 : ℕ) (x3 : List ℕ) {x4 : (of K-Message)} (g4 : Fits K-Message x4) {x5 : (of K-Part)} (g5 : Fits K-Part x5) {x6 : ℕ} (g6 : Fits K-u64 x6) → Called 𝓛 (C-heed 𝓛 at_mem run) (((ν3 ∷ [], tt), (full_share, tt), tt, (x0, (x1, (x2, ((record { ref_ptr = (b3, o3); ghost_name = δ3; now = x3 }), (x4, (x5, (x6, tt))))))), (K-SettingsWords.val x0 ∷ [], (K-StateWords.val x1 ∷ [], (K-Grants.val x2 ∷ [], (slice_val (b3, o3) (length x3) ∷ [], (K-Message.val x4 ∷ [], (K-Part.val x5 ∷ [], (K-u64.val x6 ∷ [], tt)))))))), tt) (‵ (slice K-u8 (for-call ν3 δ3 b3 o3) (length x3) x3) ⊛ ‵ ftrue) K-Signaled (‵ (flft (ν3 ∷ []) full_share) ⊛ ‵ ftrue) (λ (ws : (Unit {0} × (Unit {0} × (Unit {0} × (List ℕ × (Unit {0} × (Unit {0} × (Unit {0} × Unit {0})))))))). ‵ (lasts f-heed.ended (ν3 ∷ [], tt) (x0, (x1, (x2, ((record { ref_ptr = (b3, o3); ghost_name = δ3; now = x3 }), (x4, (x5, (x6, tt))))))) ws)) (λ r ws. (r ≡ signaled_of x0 x1 x2 (noticed_in x3 x5.from x5.to) x4.header (port_in x4.body) x6) × (ws.1.1.1.0 ≡ x3))
-  by-heed {x0} g0 {x1} g1 {x2} g2 ν3 δ3 b3 o3 x3 {x4} g4 {x5} g5 {x6} g6 = record { asks = qed 𝓛 ((‵ (slice K-u8 (for-call ν3 δ3 b3 o3) (length x3) x3) ⊛ ‵ ftrue) ∷ []) ∵ split ! $ move ! (1 ∷ []) $ drop ! $ hands ! K-u8 (for-call ν3 δ3 b3 o3) (length x3) x3 $ nothing ! $ move ! (2 ∷ 0 ∷ []) $ join ! $ nothing ! $ owned ! (row_of K-u64) (Is (row_of K-u64)) (K-u64.makes 𝓛) x6 _ g6.is $ fjoin ! $ owned ! (row_of K-Part) (Is (row_of K-Part)) (K-Part.makes 𝓛) x5 _ g5.is $ fjoin ! $ owned ! (row_of K-Message) (Is (row_of K-Message)) (K-Message.makes 𝓛) x4 _ g4.is $ fjoin ! $ move ! (2 ∷ 0 ∷ []) $ fjoin ! $ owned ! (row_of K-Grants) (Is (row_of K-Grants)) (K-Grants.makes 𝓛) x2 _ g2.is $ fjoin ! $ owned ! (row_of K-StateWords) (Is (row_of K-StateWords)) (K-StateWords.makes 𝓛) x1 _ g1.is $ fjoin ! $ owned ! (row_of K-SettingsWords) (Is (row_of K-SettingsWords)) (K-SettingsWords.makes 𝓛) x0 _ g0.is $ fjoin ! $ move ! (1 ∷ 0 ∷ []) $ join ! $ frame ! $ done !; says = λ w. id⊢ 𝓤 _ }
-
-  pub by-unheeded : {x0 : (of K-Signaled)} (g0 : Fits K-Signaled x0) → Called 𝓛 (C-unheeded 𝓛 at_mem run) ((tt, tt, tt, (x0, tt), (K-Signaled.val x0 ∷ [], tt)), tt) (‵ ftrue) K-AnswerWords (‵ ftrue) (λ (ws : (Unit {0} × Unit {0})). ‵ (lasts f-unheeded.ended tt (x0, tt) ws)) (λ r ws. r ≡ refusing x0.number)
-  by-unheeded {x0} g0 = record { asks = qed 𝓛 ((‵ ftrue) ∷ []) ∵ nothing ! $ nothing ! $ owned ! (row_of K-Signaled) (Is (row_of K-Signaled)) (K-Signaled.makes 𝓛) x0 _ g0.is $ fjoin ! $ move ! (1 ∷ 0 ∷ []) $ join ! $ frame ! $ done !; says = λ w. id⊢ 𝓤 _ }
-
-  pub by-heeded : Called 𝓛 (C-heeded 𝓛 at_mem run) ((tt, tt, tt, tt, tt), tt) (‵ ftrue) K-AnswerWords (‵ ftrue) (λ (ws : Unit {0}). ‵ (lasts f-heeded.ended tt tt ws)) (λ r ws. r ≡ plain_words 24)
-  by-heeded = record { asks = qed 𝓛 ((‵ ftrue) ∷ []) ∵ nothing ! $ nothing ! $ move ! (1 ∷ 0 ∷ []) $ join ! $ frame ! $ done !; says = λ w. id⊢ 𝓤 _ }
 
   pub by-request : {x0 : (of K-SettingsWords)} (g0 : Fits K-SettingsWords x0) {x1 : (of K-StateWords)} (g1 : Fits K-StateWords x1) {x2 : (of K-HalvesWords)} (g2 : Fits K-HalvesWords x2) (ν3 : ℕ) (δ3 : GName) (b3 o3 : ℕ) (x3 : List ℕ) {x4 : ℕ} (g4 : Fits K-u64 x4) → Called 𝓛 (C-request 𝓛 at_mem run) (((ν3 ∷ [], tt), (full_share, tt), tt, (x0, (x1, (x2, ((record { ref_ptr = (b3, o3); ghost_name = δ3; now = x3 }), (x4, tt))))), (K-SettingsWords.val x0 ∷ [], (K-StateWords.val x1 ∷ [], (K-HalvesWords.val x2 ∷ [], (slice_val (b3, o3) (length x3) ∷ [], (K-u64.val x4 ∷ [], tt)))))), tt) (‵ (slice K-u8 (for-call ν3 δ3 b3 o3) (length x3) x3) ⊛ ‵ ftrue) K-Requested (‵ (flft (ν3 ∷ []) full_share) ⊛ ‵ ftrue) (λ (ws : (Unit {0} × (Unit {0} × (Unit {0} × (List ℕ × (Unit {0} × Unit {0})))))). ‵ (lasts f-request.ended (ν3 ∷ [], tt) (x0, (x1, (x2, ((record { ref_ptr = (b3, o3); ghost_name = δ3; now = x3 }), (x4, tt))))) ws)) (λ r ws. (r ≡ requested_of x0 x1 x2 x4 (length x3)) × (ws.1.1.1.0 ≡ frame_after (core_of x0 x1 x2 (delays_words fresh_exchange)) x4 x3))
   by-request {x0} g0 {x1} g1 {x2} g2 ν3 δ3 b3 o3 x3 {x4} g4 = record { asks = qed 𝓛 ((‵ (slice K-u8 (for-call ν3 δ3 b3 o3) (length x3) x3) ⊛ ‵ ftrue) ∷ []) ∵ split ! $ move ! (1 ∷ []) $ drop ! $ hands ! K-u8 (for-call ν3 δ3 b3 o3) (length x3) x3 $ nothing ! $ move ! (2 ∷ 0 ∷ []) $ join ! $ nothing ! $ owned ! (row_of K-u64) (Is (row_of K-u64)) (K-u64.makes 𝓛) x4 _ g4.is $ fjoin ! $ move ! (2 ∷ 0 ∷ []) $ fjoin ! $ owned ! (row_of K-HalvesWords) (Is (row_of K-HalvesWords)) (K-HalvesWords.makes 𝓛) x2 _ g2.is $ fjoin ! $ owned ! (row_of K-StateWords) (Is (row_of K-StateWords)) (K-StateWords.makes 𝓛) x1 _ g1.is $ fjoin ! $ owned ! (row_of K-SettingsWords) (Is (row_of K-SettingsWords)) (K-SettingsWords.makes 𝓛) x0 _ g0.is $ fjoin ! $ move ! (1 ∷ 0 ∷ []) $ join ! $ frame ! $ done !; says = λ w. id⊢ 𝓤 _ }

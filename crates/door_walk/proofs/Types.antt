@@ -20,34 +20,30 @@ use denote.Laws.{Is}
 use denote.Builtin.{u8, u16, u32, u64, usize, i32, i64, bool, unit}
 use denote.Array.{Array}
 use denote.Steps.{nothing}
-use Rattle.door_walk.proofs.Plain.{Plain, of, ty, row_of, Fits, fits, Field, Put, unsigned, signed, truth, void, array, struct, enum, name_of, tys-of, offset-of, words, map_same}
+use Rattle.door_walk.proofs.Plain.{Plain, of, ty, row_of, Fits, fits, Field, Put, unsigned, signed, truth, void, array, struct, name_of, tys-of, offset-of, words, map_same}
 use Rattle.door_walk.proofs.Fields.{way}
 use Rattle.rules_exchange.proofs.Accepted as MAccepted
 use Rattle.door_words.proofs.answers.AnswerWords as MAnswerWords
 use Rattle.rules_masters.proofs.candidate.Candidate as MCandidate
 use Rattle.door_records.proofs.exchange.DelaysWords as MDelaysWords
 use Rattle.door_core.proofs.wiping.Emptied as MEmptied
-use Rattle.rules_grants.proofs.grants.Grants as MGrants
 use Rattle.door_records.proofs.exchange.HalvesWords as MHalvesWords
 use Rattle.rules_watch.proofs.window.Head as MHead
 use Rattle.door_choosing.proofs.Held as MHeld
 use Rattle.door_choosing.proofs.Looked as MLooked
 use Rattle.door_records.proofs.masters.MasterWords as MMasterWords
 use Rattle.wire_layout.proofs.message.Message as MMessage
-use Rattle.wire_layout.proofs.message.Part as MPart
 use Rattle.door_core.proofs.receiving.Received as MReceived
 use Rattle.door_measuring.proofs.asking.Requested as MRequested
 use Rattle.door_choosing.proofs.Seated as MSeated
 use Rattle.rules_servo.proofs.Servo as MServo
 use Rattle.door_records.proofs.unit.SettingsWords as MSettingsWords
-use Rattle.door_granting.proofs.Signaled as MSignaled
 use Rattle.numbers.proofs.stamp.Stamp as MStamp
 use Rattle.door_records.proofs.unit.StateWords as MStateWords
 use Rattle.door_core.proofs.ticking.Ticked as MTicked
 use Rattle.door_measuring.proofs.measuring.Told as MTold
 use Rattle.door_records.proofs.unit.UnitWords as MUnitWords
 use Rattle.rules_watch.proofs.Watch as MWatch
-use Rattle.numbers.proofs.refusal.Refusal as MRefusal
 
 abbrev pub K-unit : Plain unit ty_unit
 K-unit = void
@@ -100,9 +96,6 @@ K-DelaysWords = struct MDelaysWords.the_type MDelaysWords.TheLaws.the_laws MDela
 unfoldable pub K-Emptied : Plain MEmptied.the_row MEmptied.TheLaws.mir
 K-Emptied = struct MEmptied.the_type MEmptied.TheLaws.the_laws MEmptied.TheLaws.lowers MEmptied.TheLaws.the_plain
 
-unfoldable pub K-Grants : Plain MGrants.the_row MGrants.TheLaws.mir
-K-Grants = struct MGrants.the_type MGrants.TheLaws.the_laws MGrants.TheLaws.lowers MGrants.TheLaws.the_plain
-
 unfoldable pub K-HalvesWords : Plain MHalvesWords.the_row MHalvesWords.TheLaws.mir
 K-HalvesWords = struct MHalvesWords.the_type MHalvesWords.TheLaws.the_laws MHalvesWords.TheLaws.lowers MHalvesWords.TheLaws.the_plain
 
@@ -121,9 +114,6 @@ K-MasterWords = struct MMasterWords.the_type MMasterWords.TheLaws.the_laws MMast
 unfoldable pub K-Message : Plain MMessage.the_row MMessage.TheLaws.mir
 K-Message = struct MMessage.the_type MMessage.TheLaws.the_laws MMessage.TheLaws.lowers MMessage.TheLaws.the_plain
 
-unfoldable pub K-Part : Plain MPart.the_row MPart.TheLaws.mir
-K-Part = struct MPart.the_type MPart.TheLaws.the_laws MPart.TheLaws.lowers MPart.TheLaws.the_plain
-
 unfoldable pub K-Received : Plain MReceived.the_row MReceived.TheLaws.mir
 K-Received = struct MReceived.the_type MReceived.TheLaws.the_laws MReceived.TheLaws.lowers MReceived.TheLaws.the_plain
 
@@ -138,9 +128,6 @@ K-Servo = struct MServo.the_type MServo.TheLaws.the_laws MServo.TheLaws.lowers M
 
 unfoldable pub K-SettingsWords : Plain MSettingsWords.the_row MSettingsWords.TheLaws.mir
 K-SettingsWords = struct MSettingsWords.the_type MSettingsWords.TheLaws.the_laws MSettingsWords.TheLaws.lowers MSettingsWords.TheLaws.the_plain
-
-unfoldable pub K-Signaled : Plain MSignaled.the_row MSignaled.TheLaws.mir
-K-Signaled = struct MSignaled.the_type MSignaled.TheLaws.the_laws MSignaled.TheLaws.lowers MSignaled.TheLaws.the_plain
 
 unfoldable pub K-Stamp : Plain MStamp.the_row MStamp.TheLaws.mir
 K-Stamp = struct MStamp.the_type MStamp.TheLaws.the_laws MStamp.TheLaws.lowers MStamp.TheLaws.the_plain
@@ -159,9 +146,6 @@ K-UnitWords = struct MUnitWords.the_type MUnitWords.TheLaws.the_laws MUnitWords.
 
 unfoldable pub K-Watch : Plain MWatch.the_row MWatch.TheLaws.mir
 K-Watch = struct MWatch.the_type MWatch.TheLaws.the_laws MWatch.TheLaws.lowers MWatch.TheLaws.the_plain
-
-unfoldable pub K-Refusal : Plain MRefusal.the_row MRefusal.TheLaws.mir
-K-Refusal = enum MRefusal.the_type MRefusal.TheLaws.the_laws MRefusal.TheLaws.lowers MRefusal.TheLaws.the_plain tt
 
 pub F-Emptied-0 : Field K-Emptied K-HalvesWords 0 (λ x. x.halves)
 unfolding K-Emptied K-HalvesWords
@@ -191,21 +175,13 @@ pub F-Received-0 : Field K-Received K-Message 0 (λ x. x.message)
 unfolding K-Received K-Message
 F-Received-0 = record { off = offset-of (field_at 0 (tys-of (ty K-Received)) 0); ty-is = refl; at = refl; val_is = λ x. refl; part-is = λ x. refl; part = λ x g. fits K-Message x.message _ g.is.1.1.0 }
 
-pub F-Received-1 : Field K-Received K-Part 1 (λ x. x.part)
-unfolding K-Received K-Part
-F-Received-1 = record { off = offset-of (field_at 0 (tys-of (ty K-Received)) 1); ty-is = refl; at = refl; val_is = λ x. refl; part-is = λ x. refl; part = λ x g. fits K-Part x.part _ g.is.1.1.1.0 }
-
-pub F-Received-3 : Field K-Received K-bool 3 (λ x. x.barred)
+pub F-Received-2 : Field K-Received K-bool 2 (λ x. x.barred)
 unfolding K-Received
-F-Received-3 = record { off = offset-of (field_at 0 (tys-of (ty K-Received)) 3); ty-is = refl; at = refl; val_is = λ x. refl; part-is = λ x. refl; part = λ x g. fits K-bool x.barred _ g.is.1.1.1.1.1.0 }
+F-Received-2 = record { off = offset-of (field_at 0 (tys-of (ty K-Received)) 2); ty-is = refl; at = refl; val_is = λ x. refl; part-is = λ x. refl; part = λ x g. fits K-bool x.barred _ g.is.1.1.1.1.0 }
 
-pub F-Received-4 : Field K-Received K-bool 4 (λ x. x.announces)
+pub F-Received-3 : Field K-Received K-bool 3 (λ x. x.announces)
 unfolding K-Received
-F-Received-4 = record { off = offset-of (field_at 0 (tys-of (ty K-Received)) 4); ty-is = refl; at = refl; val_is = λ x. refl; part-is = λ x. refl; part = λ x g. fits K-bool x.announces _ g.is.1.1.1.1.1.1.0 }
-
-pub F-Received-5 : Field K-Received K-bool 5 (λ x. x.signals)
-unfolding K-Received
-F-Received-5 = record { off = offset-of (field_at 0 (tys-of (ty K-Received)) 5); ty-is = refl; at = refl; val_is = λ x. refl; part-is = λ x. refl; part = λ x g. fits K-bool x.signals _ g.is.1.1.1.1.1.1.1.0 }
+F-Received-3 = record { off = offset-of (field_at 0 (tys-of (ty K-Received)) 3); ty-is = refl; at = refl; val_is = λ x. refl; part-is = λ x. refl; part = λ x g. fits K-bool x.announces _ g.is.1.1.1.1.1.0 }
 
 pub F-Requested-0 : Field K-Requested K-AnswerWords 0 (λ x. x.answer)
 unfolding K-Requested K-AnswerWords
@@ -226,18 +202,6 @@ F-Seated-0 = record { off = offset-of (field_at 0 (tys-of (ty K-Seated)) 0); ty-
 pub F-Seated-2 : Field K-Seated K-usize 2 (λ x. x.at)
 unfolding K-Seated
 F-Seated-2 = record { off = offset-of (field_at 0 (tys-of (ty K-Seated)) 2); ty-is = refl; at = refl; val_is = λ x. refl; part-is = λ x. refl; part = λ x g. fits K-usize x.at _ g.is.1.1.1.1.0 }
-
-pub F-Signaled-0 : Field K-Signaled K-Grants 0 (λ x. x.grants)
-unfolding K-Signaled K-Grants
-F-Signaled-0 = record { off = offset-of (field_at 0 (tys-of (ty K-Signaled)) 0); ty-is = refl; at = refl; val_is = λ x. refl; part-is = λ x. refl; part = λ x g. fits K-Grants x.grants _ g.is.1.1.0 }
-
-pub F-Signaled-1 : Field K-Signaled K-StateWords 1 (λ x. x.state)
-unfolding K-Signaled K-StateWords
-F-Signaled-1 = record { off = offset-of (field_at 0 (tys-of (ty K-Signaled)) 1); ty-is = refl; at = refl; val_is = λ x. refl; part-is = λ x. refl; part = λ x g. fits K-StateWords x.state _ g.is.1.1.1.0 }
-
-pub F-Signaled-3 : Field K-Signaled K-bool 3 (λ x. x.barred)
-unfolding K-Signaled
-F-Signaled-3 = record { off = offset-of (field_at 0 (tys-of (ty K-Signaled)) 3); ty-is = refl; at = refl; val_is = λ x. refl; part-is = λ x. refl; part = λ x g. fits K-bool x.barred _ g.is.1.1.1.1.1.0 }
 
 pub F-Ticked-0 : Field K-Ticked K-AnswerWords 0 (λ x. x.answer)
 unfolding K-Ticked K-AnswerWords

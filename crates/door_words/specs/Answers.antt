@@ -21,7 +21,7 @@ use Rattle.unit_core.specs.declared.calls.PortState.{PortState}
 use Rattle.unit_core.specs.declared.calls.PortState.TheVariants.{Faulty, Listening, Uncalibrated, Slave}
 use Rattle.unit_core.specs.declared.calls.Shows.{Shows as Showing}
 use Rattle.unit_core.specs.declared.calls.Answer.{Answer}
-use Rattle.unit_core.specs.declared.calls.Answer.TheVariants.{Refused, Choice, Exchange, Watch, Wiped, Line, Shows, Signaled}
+use Rattle.unit_core.specs.declared.calls.Answer.TheVariants.{Refused, Choice, Exchange, Watch, Wiped, Line, Shows}
 use Rattle.door_records.specs.declared.unit.ChosenWords.{ChosenWords}
 use Rattle.door_records.specs.Unit.{chosen_words}
 use Rattle.door_words.specs.declared.answers.AnswerWords.{AnswerWords}
@@ -90,4 +90,3 @@ answer_words (Watch p) = plain (pulse_code p)
 answer_words Wiped = plain 16
 answer_words (Line l n) = lining l n
 answer_words (Shows s) = showing s
-answer_words Signaled = plain 24

@@ -9,7 +9,7 @@ use Rattle.wire_layout.specs.declared.message.Header.{Header}
 use Rattle.wire_layout.specs.declared.message.Offer.{Offer}
 use Rattle.wire_layout.specs.declared.message.Part.{Part}
 use Rattle.wire_layout.specs.declared.message.Body.{Body}
-use Rattle.wire_layout.specs.declared.message.Body.TheVariants.{Sync, DelayReq, FollowUp, DelayResp, Announce, Signaling}
+use Rattle.wire_layout.specs.declared.message.Body.TheVariants.{Sync, DelayReq, FollowUp, DelayResp, Announce}
 use Rattle.wire_layout.specs.declared.message.Message.{Message}
 use Rattle.wire_layout.specs.declared.message.Read.{Read}
 use Rattle.wire_layout.specs.declared.message.Read.TheVariants as reads
@@ -27,14 +27,12 @@ use Rattle.door_words.specs.declared.messages.Handed.TheVariants.{Got, Barred}
 abbrev pub no_port : Port
 no_port = record { clock = 0; number = 0 }
 
--- the port that a body names: the requester of a Delay_Resp, the target of a Signaling
-abbrev pub port_in : Body → Port
-port_in (Sync t) = no_port
-port_in (DelayReq t) = no_port
-port_in (FollowUp t) = no_port
-port_in (DelayResp t p) = p
-port_in (Announce t o) = no_port
-port_in (Signaling p) = p
+abbrev pub requester_in : Body → Port
+requester_in (Sync t) = no_port
+requester_in (DelayReq t) = no_port
+requester_in (FollowUp t) = no_port
+requester_in (DelayResp t p) = p
+requester_in (Announce t o) = no_port
 
 abbrev pub offer_in : Body → Offer
 offer_in (Sync t) = no_offer
@@ -42,17 +40,22 @@ offer_in (DelayReq t) = no_offer
 offer_in (FollowUp t) = no_offer
 offer_in (DelayResp t p) = no_offer
 offer_in (Announce t o) = o
-offer_in (Signaling p) = no_offer
 
 abbrev pub refused_words : ℕ → MessageWords
 refused_words n = record { refused = n; kind = 0; header = no_header; stamp = no_stamp; requester = no_port; offer = no_offer; from = 0; to = 0 }
 
--- none is refused
-abbrev pub having_words : ℕ → Header → Stamp → Port → Offer → (from to : ℕ) → MessageWords
-having_words k h t p o from to = record { refused = 0; kind = k; header = h; stamp = t; requester = p; offer = o; from = from; to = to }
-
 abbrev pub got_words : Message → Part → MessageWords
-got_words m p = having_words (kind_of m.body) m.header (stamp_in m.body) (port_in m.body) (offer_in m.body) p.from p.to
+got_words m p =
+    record {
+      refused = 0;
+      kind = kind_of m.body;
+      header = m.header;
+      stamp = stamp_in m.body;
+      requester = requester_in m.body;
+      offer = offer_in m.body;
+      from = p.from;
+      to = p.to;
+    }
 
 abbrev pub read_words : Read → MessageWords
 read_words (reads.Got m p) = got_words m p
@@ -62,13 +65,13 @@ read_words (reads.Refused r) = refused_words (number_of r)
 abbrev pub with : Header → Body → Handed
 with h b = Got (record { header = h; body = b })
 
--- the six kinds of rules 2.5 and 2.18; any other is KIND (rule 3.3)
+-- the five kinds of rule 2.5; any other is KIND (rule 3.3)
 unfoldable pub by_kind : ℕ → Header → Stamp → Port → Offer → Handed
 by_kind k h t p o =
     cond (eqb k 0) (with h (Sync t))
     (cond (eqb k 1) (with h (DelayReq t))
     (cond (eqb k 8) (with h (FollowUp t))
-    (cond (eqb k 9) (with h (DelayResp t p)) (cond (eqb k 11) (with h (Announce t o)) (cond (eqb k 12) (with h (Signaling p)) (Barred Kind))))))
+    (cond (eqb k 9) (with h (DelayResp t p)) (cond (eqb k 11) (with h (Announce t o)) (Barred Kind)))))
 
 -- what was refused in reading is no message, whatever number is there
 unfoldable pub message_by : MessageWords → Handed

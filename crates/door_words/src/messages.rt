@@ -5,7 +5,7 @@ ghost use Rattle.numbers.specs.Grounds.{first_of};
 ghost use Rattle.wire_layout.specs.Positions.{message_of};
 ghost use Rattle.wire_layout.specs.Reading.{reading_grounds, suffix_at, read_of};
 ghost use Rattle.rules_masters.specs.Records.{no_offer};
-ghost use Rattle.door_words.specs.Messages.{no_port, refused_words, port_in, offer_in, having_words, got_words, read_words, with, by_kind, message_by, written_by, left_words};
+ghost use Rattle.door_words.specs.Messages.{no_port, refused_words, offer_in, got_words, read_words, by_kind, message_by, written_by, left_words};
 
 use numbers::refusal::Refusal;
 use numbers::ruling::Ruling;
@@ -22,7 +22,7 @@ pub struct MessageWords {
     pub kind: u8,
     pub header: Header,
     pub stamp: Stamp,
-    pub requester: Port, // of a Delay_Resp; of a Signaling its target
+    pub requester: Port, // of a Delay_Resp
     pub offer: Offer, // of an Announce
     pub from: usize, // where the TLV suffix lies in the octets that were read ..
     pub to: usize, // .. and ends
@@ -68,28 +68,7 @@ pub fn offer_in(body: Body) -> Offer
         Body::FollowUp(_) => no_offer(),
         Body::DelayResp(_, _) => no_offer(),
         Body::Announce(_, offer) => offer,
-        Body::Signaling(_) => no_offer(),
     }
-}
-
-// The port that a body names: the requester of a Delay_Resp, the target of a Signaling.
-pub fn port_in(body: Body) -> Port
-    ensures { result ≡ port_in body }
-{
-    match body {
-        Body::Sync(_) => nobody(),
-        Body::DelayReq(_) => nobody(),
-        Body::FollowUp(_) => nobody(),
-        Body::DelayResp(_, requester) => requester,
-        Body::Announce(_, _) => nobody(),
-        Body::Signaling(target) => target,
-    }
-}
-
-fn with(header: Header, body: Body) -> Handed
-    ensures { result ≡ with header body }
-{
-    Handed::Got(Message { header, body })
 }
 
 impl MessageWords {
@@ -113,58 +92,50 @@ impl MessageWords {
         }
     }
 
-    // None is refused.
-    fn having(
-        kind: u8,
-        header: Header,
-        stamp: Stamp,
-        requester: Port,
-        offer: Offer,
-        from: usize,
-        to: usize,
-    ) -> MessageWords
-        ensures { result ≡ having_words kind header stamp requester offer from to }
-    {
-        MessageWords {
-            refused: 0,
-            kind,
-            header,
-            stamp,
-            requester,
-            offer,
-            from,
-            to,
-        }
-    }
-
     // The words of octets that nothing bars, each field from where it lies. Each case returns by itself: where they met, the compiler read numbers
     // octet by octet (docs/DECISIONS.md).
     fn got(s: &[u8]) -> MessageWords
         requires { first_of (reading_grounds s.now) ≡ Clear }
         ensures { result ≡ got_words (message_of s.now) (suffix_at s.now) }
     {
+        let stamp = wire_reader::stamp_at(s, 34);
         let header = wire_reader::header_of(s);
         let to = u16_at(s, 2) as usize;
         let kind = s[0] % 16;
-        let none = no_offer();
-        if kind == kinds::Signaling::KIND {
-            let target = wire_reader::port_at(s, 34);
-            let from = kinds::Signaling::LENGTH;
-            return MessageWords::having(kind, header, Stamp::zero(), target, none, from, to);
-        }
-        let stamp = wire_reader::stamp_at(s, 34);
         if kind == kinds::DelayResp::KIND {
-            let requester = wire_reader::port_at(s, 44);
-            let from = kinds::DelayResp::LENGTH;
-            return MessageWords::having(kind, header, stamp, requester, none, from, to);
+            return MessageWords {
+                refused: 0,
+                kind,
+                header,
+                stamp,
+                requester: wire_reader::port_at(s, 44),
+                offer: no_offer(),
+                from: kinds::DelayResp::LENGTH,
+                to,
+            };
         }
         if kind == kinds::Announce::KIND {
-            let offer = wire_reader::offer_of(s);
-            let from = kinds::Announce::LENGTH;
-            return MessageWords::having(kind, header, stamp, nobody(), offer, from, to);
+            return MessageWords {
+                refused: 0,
+                kind,
+                header,
+                stamp,
+                requester: nobody(),
+                offer: wire_reader::offer_of(s),
+                from: kinds::Announce::LENGTH,
+                to,
+            };
         }
-        let from = kinds::Sync::LENGTH;
-        MessageWords::having(kind, header, stamp, nobody(), none, from, to)
+        MessageWords {
+            refused: 0,
+            kind,
+            header,
+            stamp,
+            requester: nobody(),
+            offer: no_offer(),
+            from: kinds::Sync::LENGTH,
+            to,
+        }
     }
 
     // What reading the octets answers.
@@ -183,25 +154,37 @@ impl MessageWords {
     {
         let header = self.header;
         let stamp = self.stamp;
-        let port = self.requester;
         if self.kind == kinds::Sync::KIND {
-            return with(header, Body::Sync(stamp));
+            return Handed::Got(Message {
+                header,
+                body: Body::Sync(stamp),
+            });
         }
         if self.kind == kinds::DelayReq::KIND {
-            return with(header, Body::DelayReq(stamp));
+            return Handed::Got(Message {
+                header,
+                body: Body::DelayReq(stamp),
+            });
         }
         if self.kind == kinds::FollowUp::KIND {
-            return with(header, Body::FollowUp(stamp));
+            return Handed::Got(Message {
+                header,
+                body: Body::FollowUp(stamp),
+            });
         }
         if self.kind == kinds::DelayResp::KIND {
-            return with(header, Body::DelayResp(stamp, port));
+            let requester = self.requester;
+            return Handed::Got(Message {
+                header,
+                body: Body::DelayResp(stamp, requester),
+            });
         }
         if self.kind == kinds::Announce::KIND {
             let offer = self.offer;
-            return with(header, Body::Announce(stamp, offer));
-        }
-        if self.kind == kinds::Signaling::KIND {
-            return with(header, Body::Signaling(port));
+            return Handed::Got(Message {
+                header,
+                body: Body::Announce(stamp, offer),
+            });
         }
         Handed::Barred(Refusal::Kind)
     }

@@ -2,10 +2,10 @@
 -- A list that several places ask takes all that is due as one (`Due`): a refusal more is a line here, and no place that cannot meet it is touched.
 use Rattle.std.specs.Prelude.{ℕ, Bool, false, cond, List, [], ◌∷◌, eqb}
 use Rattle.numbers.specs.declared.refusal.Refusal.{Refusal}
-use Rattle.numbers.specs.declared.refusal.Refusal.TheVariants.{Short, Version, Kind, Length, Field, Suffix, Room, Settings, Now, Domain, Own, Alternate, Steps, Repeat, Full, NotMaster, Unmatched, Faulty, Correction, Tick, NotReady, Target, Grant}
+use Rattle.numbers.specs.declared.refusal.Refusal.TheVariants.{Short, Version, Kind, Length, Field, Suffix, Room, Settings, Now, Domain, Own, Alternate, Steps, Repeat, Full, NotMaster, Unmatched, Faulty, Correction, Tick, NotReady}
 use Rattle.numbers.specs.Grounds.{Ground, gives}
 
--- rules 3.1 to 3.21, 3.25 and 3.26
+-- rules 3.1 to 3.21
 abbrev pub number_of : Refusal → ℕ
 number_of Short = 1
 number_of Version = 2
@@ -28,8 +28,6 @@ number_of Faulty = 18
 number_of Correction = 19
 number_of Tick = 20
 number_of NotReady = 21
-number_of Target = 25
-number_of Grant = 26
 
 -- which refusals are due of a call. Whoever says so begins with none, and names those alone that his call can meet
 abbrev pub Due : Type 0
@@ -62,20 +60,19 @@ of_writing field suffix length room = gives Field field ∷ gives Suffix suffix 
 abbrev pub of_handing : (kind table : Bool) → List Ground
 of_handing kind table = gives Kind kind ∷ gives Settings table ∷ []
 
--- an Announce (rule 3.56): 9 to 12, 26, 13 to 15
+-- an Announce (rule 3.56): 9 to 15
 abbrev pub of_announce : Due → List Ground
 of_announce due =
     gives Now (due Now)
     ∷ gives Domain (due Domain)
     ∷ gives Own (due Own)
     ∷ gives Alternate (due Alternate)
-    ∷ gives Grant (due Grant)
     ∷ gives Steps (due Steps)
     ∷ gives Repeat (due Repeat)
     ∷ gives Full (due Full)
     ∷ []
 
--- whatever is of the exchange, messages and requests alike: 5 and 9, 18, 10, 16, 26, then 19, 17, 7
+-- whatever is of the exchange, messages and requests alike: 5 and 9, 18, 10, 16, then 19, 17, 7
 abbrev pub of_exchange : Due → List Ground
 of_exchange due =
     gives Field (due Field)
@@ -83,20 +80,10 @@ of_exchange due =
     ∷ gives Faulty (due Faulty)
     ∷ gives Domain (due Domain)
     ∷ gives NotMaster (due NotMaster)
-    ∷ gives Grant (due Grant)
     ∷ gives Correction (due Correction)
     ∷ gives Unmatched (due Unmatched)
     ∷ gives Room (due Room)
     ∷ []
-
--- a Signaling (rule 3.69): 9, 10, 25, 4, 15
-abbrev pub of_signaling : Due → List Ground
-of_signaling due =
-    gives Now (due Now) ∷ gives Domain (due Domain) ∷ gives Target (due Target) ∷ gives Length (due Length) ∷ gives Full (due Full) ∷ []
-
--- the writing of a unicast TLV (rule 3.68): 5, 7
-abbrev pub of_tlv : (field room : Bool) → List Ground
-of_tlv field room = gives Field field ∷ gives Room room ∷ []
 
 -- the bare time call (rule 3.62): 8 of a lent table that is not of five, 9
 abbrev pub of_time : Due → List Ground

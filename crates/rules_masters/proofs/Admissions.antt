@@ -80,15 +80,15 @@ module _ (t : Table) (m : Announce) (interval now : ℕ) where
           record { unknown = ltb-false _ _ e; free = refl; inside = omega arith; after = refl }
 
 -- THEOREM. The three ways in which an admission ends.
-pub outcome : (t : Table) (m : Announce) (domain : ℕ) (own : Port) (a last now : ℕ) (ungranted : Bool) → length t.records ≡ 5
-    → Outcome t m (interval_of a) now (admitted_of t m domain own a last now ungranted).answer (admitted_of t m domain own a last now ungranted).table
+pub outcome : (t : Table) (m : Announce) (domain : ℕ) (own : Port) (a last now : ℕ) → length t.records ≡ 5
+    → Outcome t m (interval_of a) now (admitted_of t m domain own a last now).answer (admitted_of t m domain own a last now).table
 unfolding admitted_of
-outcome t m domain own a last now ungranted five = by (first_of (grounds_of t m domain own a last now ungranted)) refl
+outcome t m domain own a last now five = by (first_of (grounds_of t m domain own a last now)) refl
   where
-    by : (v : Ruling) → first_of (grounds_of t m domain own a last now ungranted) ≡ v
+    by : (v : Ruling) → first_of (grounds_of t m domain own a last now) ≡ v
         → Outcome t m (interval_of a) now (admitted_by v t (accepted_of t.records m (interval_of a) now)).answer
         (admitted_by v t (accepted_of t.records m (interval_of a) now)).table
-    by Clear e = let n = clear-announce _ _ _ _ _ _ (standings_in t.records m (interval_of a) now) e in accepted t m (interval_of a) now five n.1 n.2
+    by Clear e = let n = clear-announce _ _ _ _ _ (standings_in t.records m (interval_of a) now) e in accepted t m (interval_of a) now five n.1 n.2
     by (Barred r) e = refl
 
 -- the table has changed at this place, and nowhere else
@@ -128,19 +128,19 @@ module _ (t : Table) (m : Announce) (interval now : ℕ) (five : length t.record
       one-changed t place _ u five o.inside (λ q. true≢false (sym live ∙ ap (live_of now interval) q ∙ dead)) o.after
 
 -- THEOREM. An admission changes exactly one place where it accepts, and none where it refuses.
-pub admission-changes : (t : Table) (m : Announce) (domain : ℕ) (own : Port) (a last now : ℕ) (ungranted : Bool) → length t.records ≡ 5
-    → Changes t (admitted_of t m domain own a last now ungranted).answer (admitted_of t m domain own a last now ungranted).table
-admission-changes t m domain own a last now ungranted five =
-    let r = admitted_of t m domain own a last now ungranted in
-    changes-by t m (interval_of a) now five r.answer r.table (outcome t m domain own a last now ungranted five)
+pub admission-changes : (t : Table) (m : Announce) (domain : ℕ) (own : Port) (a last now : ℕ) → length t.records ≡ 5
+    → Changes t (admitted_of t m domain own a last now).answer (admitted_of t m domain own a last now).table
+admission-changes t m domain own a last now five =
+    let r = admitted_of t m domain own a last now in
+    changes-by t m (interval_of a) now five r.answer r.table (outcome t m domain own a last now five)
 
 -- so the table stays one of five
-pub admission-five : (t : Table) (m : Announce) (domain : ℕ) (own : Port) (a last now : ℕ) (ungranted : Bool) → length t.records ≡ 5
-    → length (admitted_of t m domain own a last now ungranted).table.records ≡ 5
-admission-five t m domain own a last now ungranted five = by r.answer r.table (admission-changes t m domain own a last now ungranted five)
+pub admission-five : (t : Table) (m : Announce) (domain : ℕ) (own : Port) (a last now : ℕ) → length t.records ≡ 5
+    → length (admitted_of t m domain own a last now).table.records ≡ 5
+admission-five t m domain own a last now five = by r.answer r.table (admission-changes t m domain own a last now five)
   where
     r : Admitted
-    r = admitted_of t m domain own a last now ungranted
+    r = admitted_of t m domain own a last now
 
     by : (x : Answer) (u : Table) → Changes t x u → length u.records ≡ 5
     by (Refused n) u e = rw e five
@@ -181,8 +181,8 @@ module _ (t : Table) (m : Announce) (interval now : ℕ) (five : length t.record
       rw o.after (keyed-set now interval t.records place _ (omega (arith, o.inside)) keyed (entered-alone place u o))
 
 -- THEOREM. Where no sender has two live records, none has after an admission.
-pub admission-keyed : (t : Table) (m : Announce) (domain : ℕ) (own : Port) (a last now : ℕ) (ungranted : Bool) → length t.records ≡ 5
-    → Keyed now (interval_of a) t.records → Keyed now (interval_of a) (admitted_of t m domain own a last now ungranted).table.records
-admission-keyed t m domain own a last now ungranted five keyed =
-    let r = admitted_of t m domain own a last now ungranted in
-    keyed-by t m (interval_of a) now five keyed r.answer r.table (outcome t m domain own a last now ungranted five)
+pub admission-keyed : (t : Table) (m : Announce) (domain : ℕ) (own : Port) (a last now : ℕ) → length t.records ≡ 5
+    → Keyed now (interval_of a) t.records → Keyed now (interval_of a) (admitted_of t m domain own a last now).table.records
+admission-keyed t m domain own a last now five keyed =
+    let r = admitted_of t m domain own a last now in
+    keyed-by t m (interval_of a) now five keyed r.answer r.table (outcome t m domain own a last now five)

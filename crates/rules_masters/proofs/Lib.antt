@@ -11,7 +11,6 @@ pub mod Order
 pub mod Standings
 pub mod Seating
 pub mod Admissions
-pub mod Early
 pub mod Keeping
 pub mod Choices
 pub mod Candidates

@@ -160,40 +160,40 @@ module _ (t : Table) (m : Announce) (interval now : ℕ) (five : length t.record
   seat-settled s e = rw e seat-settles
 
 -- THEOREM. An admission is the refusals that need no table, and then the seat.
-module _ (t : Table) (m : Announce) (domain : ℕ) (own : Port) (a last now : ℕ) (ungranted : Bool) where
-  pub admitted-parts : admitted_of t m domain own a last now ungranted ≡ admitted_by (barred_of m domain own last now ungranted) t (seated_of t m (interval_of a) now)
+module _ (t : Table) (m : Announce) (domain : ℕ) (own : Port) (a last now : ℕ) where
+  pub admitted-parts : admitted_of t m domain own a last now ≡ admitted_by (barred_of m domain own last now) t (seated_of t m (interval_of a) now)
   unfolding admitted_of seated_of
-  admitted-parts = rw two-parts (by (barred_of m domain own last now ungranted) _ _)
+  admitted-parts = rw two-parts (by (barred_of m domain own last now) _ _)
     where
       by : (v w : Ruling) (x : Admitted) → admitted_by (or_else v w) t x ≡ admitted_by v t (admitted_by w t x)
       by Clear w x = refl
       by (Barred r) w x = refl
 
-module _ (r0 r1 r2 r3 r4 : Record) (m : Announce) (domain : ℕ) (own : Port) (a last now : ℕ) (ungranted : Bool) where
+module _ (r0 r1 r2 r3 r4 : Record) (m : Announce) (domain : ℕ) (own : Port) (a last now : ℕ) where
   abbrev pub Five : Table
   Five = record { records = r0 ∷ r1 ∷ r2 ∷ r3 ∷ r4 ∷ [] }
 
   abbrev pub At : Record → Standing
   At = standing_of m.header.source m.header.sequence now (interval_of a)
 
-  pub admitted-by-seat : admitted_of Five m domain own a last now ungranted
-      ≡ admitted_by (barred_of m domain own last now ungranted) Five (settled_of (seat_of (At r0) (At r1) (At r2) (At r3) (At r4)) Five m now)
+  pub admitted-by-seat : admitted_of Five m domain own a last now
+      ≡ admitted_by (barred_of m domain own last now) Five (settled_of (seat_of (At r0) (At r1) (At r2) (At r3) (At r4)) Five m now)
   unfolding seat_in
   admitted-by-seat =
-      admitted-parts Five m domain own a last now ungranted ∙ ap (admitted_by (barred_of m domain own last now ungranted) Five) (sym (seat-settles Five m (interval_of a) now refl))
+      admitted-parts Five m domain own a last now ∙ ap (admitted_by (barred_of m domain own last now) Five) (sym (seat-settles Five m (interval_of a) now refl))
 
   -- way by way: barred before the table is looked at, ..
-  pub way-barred : (r : Refusal) → barred_of m domain own last now ungranted ≡ Barred r → admitted_of Five m domain own a last now ungranted ≡ record { answer = Refused r; table = Five }
+  pub way-barred : (r : Refusal) → barred_of m domain own last now ≡ Barred r → admitted_of Five m domain own a last now ≡ record { answer = Refused r; table = Five }
   way-barred r e = admitted-by-seat ∙ rw e
 
   -- .. or by what is in it; the sender's own record renewed; a new one entered
-  module _ (clear : barred_of m domain own last now ungranted ≡ Clear) where
+  module _ (clear : barred_of m domain own last now ≡ Clear) where
     pub way-refused : (r : Refusal) → (seat_of (At r0) (At r1) (At r2) (At r3) (At r4)).ruling ≡ Barred r
-        → admitted_of Five m domain own a last now ungranted ≡ record { answer = Refused r; table = Five }
+        → admitted_of Five m domain own a last now ≡ record { answer = Refused r; table = Five }
     way-refused r b = admitted-by-seat ∙ rw (clear, b)
 
     pub way-renewed : (seat_of (At r0) (At r1) (At r2) (At r3) (At r4)).ruling ≡ Clear → (seat_of (At r0) (At r1) (At r2) (At r3) (At r4)).known ≡ true
-        → admitted_of Five m domain own a last now ungranted
+        → admitted_of Five m domain own a last now
         ≡ record {
           answer = Renewed (seat_of (At r0) (At r1) (At r2) (At r3) (At r4)).at;
           table = record {
@@ -204,7 +204,7 @@ module _ (r0 r1 r2 r3 r4 : Record) (m : Announce) (domain : ℕ) (own : Port) (a
     way-renewed b k = admitted-by-seat ∙ rw (clear, b, k)
 
     pub way-entered : (seat_of (At r0) (At r1) (At r2) (At r3) (At r4)).ruling ≡ Clear → (seat_of (At r0) (At r1) (At r2) (At r3) (At r4)).known ≡ false
-        → admitted_of Five m domain own a last now ungranted
+        → admitted_of Five m domain own a last now
         ≡ record {
           answer = Entered (seat_of (At r0) (At r1) (At r2) (At r3) (At r4)).at;
           table = record { records = set Five.records (seat_of (At r0) (At r1) (At r2) (At r3) (At r4)).at (entered_of m now) };

@@ -1,6 +1,6 @@
--- The admission of an Announce (rules 3.9 to 3.15, 3.26, 3.56 and 5.5 to 5.7).
+-- The admission of an Announce (rules 3.9 to 3.15, 3.56 and 5.5 to 5.7).
 use Rattle.std.specs.Prelude.{ℕ, ◌/◌, ◌%◌, Bool, false, cond, not, ◌&&◌, List, map, ltb, leb, eqb, get_or, set}
-use Rattle.numbers.specs.declared.refusal.Refusal.TheVariants.{Now, Domain, Own, Alternate, Grant, Steps, Repeat, Full}
+use Rattle.numbers.specs.declared.refusal.Refusal.TheVariants.{Now, Domain, Own, Alternate, Steps, Repeat, Full}
 use Rattle.numbers.specs.declared.ruling.Ruling.{Ruling}
 use Rattle.numbers.specs.declared.ruling.Ruling.TheVariants.{Clear, Barred}
 use Rattle.numbers.specs.Grounds.{Ground, first_of}
@@ -19,17 +19,15 @@ use Rattle.rules_masters.specs.Places.{place_of, count_of}
 unfoldable pub alternate_of : Announce → Bool
 alternate_of m = eqb (m.header.flags / 256 % 2) 1
 
--- when each of the six that need no table is due; `last` is the unit's now, and `ungranted` whether the grant that it needs is missing (rule 13.9).
--- Behind them comes what is due by what is held.
-abbrev pub grounds_with : Announce → ℕ → Port → ℕ → ℕ → (ungranted : Bool) → (held : Due) → List Ground
-grounds_with m domain own last now ungranted held =
+-- when each of the five that need no table is due; `last` is the unit's now. Behind them comes what is due by what is held.
+abbrev pub grounds_with : Announce → ℕ → Port → ℕ → ℕ → (held : Due) → List Ground
+grounds_with m domain own last now held =
     of_announce
     (due_with Now (ltb now last)
     (due_with Domain (not (eqb m.header.domain domain))
     (due_with Own (eqb m.header.source.clock own.clock)
     (due_with Alternate (alternate_of m)
-    (due_with Grant ungranted
-    (due_with Steps (leb 255 m.offer.steps) held))))))
+    (due_with Steps (leb 255 m.offer.steps) held)))))
 
 -- what an Announce of this sender with this sequenceId asks of one record: is it live, is it the sender's and live, is its last Announce of this sequenceId
 unfoldable pub standing_of : (sender : Port) (sequence now interval : ℕ) → Record → Standing
@@ -74,14 +72,14 @@ module _ (t : List Record) (m : Announce) (interval now : ℕ) where
       (record { answer = Renewed place; table = record { records = set t place (renewed_of (get_or t place fresh_record) m now) } })
       (record { answer = Entered first; table = record { records = set t first (entered_of m now) } })
 
-abbrev pub grounds_of : Table → Announce → ℕ → Port → ℕ → ℕ → ℕ → Bool → List Ground
-grounds_of t m domain own a last now ungranted = grounds_with m domain own last now ungranted (table_due (standings_in t.records m (interval_of a) now))
+abbrev pub grounds_of : Table → Announce → ℕ → Port → ℕ → ℕ → ℕ → List Ground
+grounds_of t m domain own a last now = grounds_with m domain own last now (table_due (standings_in t.records m (interval_of a) now))
 
 -- a refusal leaves the table as it was (rule 3.51)
 abbrev pub admitted_by : Ruling → Table → Admitted → Admitted
 admitted_by Clear t accepted = accepted
 admitted_by (Barred r) t accepted = record { answer = Refused r; table = t }
 
-unfoldable pub admitted_of : Table → Announce → ℕ → Port → ℕ → ℕ → ℕ → Bool → Admitted
-admitted_of t m domain own a last now ungranted =
-    admitted_by (first_of (grounds_of t m domain own a last now ungranted)) t (accepted_of t.records m (interval_of a) now)
+unfoldable pub admitted_of : Table → Announce → ℕ → Port → ℕ → ℕ → ℕ → Admitted
+admitted_of t m domain own a last now =
+    admitted_by (first_of (grounds_of t m domain own a last now)) t (accepted_of t.records m (interval_of a) now)

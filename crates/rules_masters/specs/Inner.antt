@@ -23,8 +23,8 @@ use Rattle.rules_masters.specs.Holding.{fresh_chosen}
 use Rattle.rules_masters.specs.Admitting.{grounds_with, standing_of, home, is_known, free, table_due, standings_in, accepted_of, admitted_by}
 
 -- ---- the admission: the refusals of an Announce that need no table, ..
-abbrev pub barred_of : Announce → ℕ → Port → ℕ → ℕ → Bool → Ruling
-barred_of m domain own last now ungranted = first_of (grounds_with m domain own last now ungranted none_due)
+abbrev pub barred_of : Announce → ℕ → Port → ℕ → ℕ → Ruling
+barred_of m domain own last now = first_of (grounds_with m domain own last now none_due)
 
 -- .. and those that look into it, where none of these is due
 unfoldable pub seated_of : Table → Announce → ℕ → ℕ → Admitted

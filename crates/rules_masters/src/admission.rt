@@ -34,15 +34,8 @@ fn alternate(announce: Announce) -> bool
 }
 
 // The refusals that need no table, in the order of rule 3.56.
-pub fn barred(
-    announce: Announce,
-    domain: u8,
-    own: Port,
-    last: u64,
-    now: u64,
-    ungranted: bool,
-) -> Ruling
-    ensures { result ≡ barred_of announce domain own last now ungranted }
+pub fn barred(announce: Announce, domain: u8, own: Port, last: u64, now: u64) -> Ruling
+    ensures { result ≡ barred_of announce domain own last now }
 {
     if now < last {
         return Ruling::Barred(Refusal::Now);
@@ -55,9 +48,6 @@ pub fn barred(
     }
     if alternate(announce) {
         return Ruling::Barred(Refusal::Alternate);
-    }
-    if ungranted {
-        return Ruling::Barred(Refusal::Grant);
     }
     if 255 <= announce.offer.steps {
         return Ruling::Barred(Refusal::Steps);
@@ -114,7 +104,7 @@ fn settle(mut table: Table, announce: Announce, interval: u32, now: u64) -> Admi
     }
 }
 
-// An Announce at `now`. `last` is the unit's now (rule 1.8), a the announce exponent, `ungranted` whether the grant that it needs is missing.
+// An Announce at `now`. `last` is the unit's now (rule 1.8), a the announce exponent.
 pub fn admit(
     table: Table,
     announce: Announce,
@@ -123,11 +113,10 @@ pub fn admit(
     a: u8,
     last: u64,
     now: u64,
-    ungranted: bool,
 ) -> Admitted
-    ensures { result ≡ admitted_of table announce domain own a last now ungranted }
+    ensures { result ≡ admitted_of table announce domain own a last now }
 {
-    match barred(announce, domain, own, last, now, ungranted) {
+    match barred(announce, domain, own, last, now) {
         Ruling::Barred(refusal) => Admitted {
             answer: Answer::Refused(refusal),
             table,

@@ -75,9 +75,6 @@ module _ (g : Given) where
   abbrev limit : Bool
   limit = is_between (pos 1) g.limit (pos 100_000)
 
-  abbrev unicast : Bool
-  unicast = is_between (pos 0) g.unicast (pos 1)
-
   abbrev window : Bool
   window = is_between (pos 2) g.window (pos 128)
 
@@ -102,7 +99,7 @@ module _ (g : Given) where
   pub in-ranges : steering_fits g ≡ true → watch_fits g ≡ true → Ranges (as_given g)
   unfolding steering_fits watch_fits
   in-ranges e f =
-      let steers = split ((announce && sync) && (kp && ki)) limit (split (((announce && sync) && (kp && ki)) && limit) unicast e).0 in
+      let steers = split ((announce && sync) && (kp && ki)) limit e in
       let few = split (announce && sync) (kp && ki) steers.0 in
       let exponents = split announce sync few.0 in
       let gains = split kp ki few.1 in
@@ -134,11 +131,6 @@ module _ (g : Given) where
         jump_to = let h = le_z-true g.jump (pos 999_999_999) jumps.1 in omega (arith, one_side g.jump);
       }
 
-  -- unicast is 0 or 1
-  unicast-to : steering_fits g ≡ true → up g.unicast ≤ 1
-  unfolding steering_fits
-  unicast-to e = (ends 0 g.unicast (pos 1) (split (((announce && sync) && (kp && ki)) && limit) unicast e).1).1
-
   -- and so the types hold them
   pub as-set : steering_fits g ≡ true → watch_fits g ≡ true → narrowed_of g ≡ as_given g
   as-set e f =
@@ -155,5 +147,4 @@ module _ (g : Given) where
         as-given g.tolerance 4_294_967_295 (omega (arith, r.tolerance-to)),
         as-given g.spike 4_294_967_295 (omega (arith, r.spike-to)),
         as-given g.jump 4_294_967_295 (omega (arith, r.jump_to)),
-        as-given g.unicast 1 (unicast-to e),
       )

@@ -1,5 +1,5 @@
 -- What only inner contracts cite: nobody needs to believe it.
-use Rattle.std.specs.Prelude.{min, eqb, pos}
+use Rattle.std.specs.Prelude.{min, pos}
 use Rattle.numbers.specs.Integers.{up}
 use Rattle.rules_settings.specs.declared.Settings.{Settings}
 use Rattle.rules_settings.specs.declared.Given.{Given}
@@ -24,5 +24,4 @@ narrowed_of g =
             spike = min 4_294_967_295 (up g.spike);
             jump = min 4_294_967_295 (up g.jump);
           };
-      unicast = eqb (min 1 (up g.unicast)) 1;
     }

@@ -1,5 +1,5 @@
--- The fourteen settings and their ranges, over words of any size (rules 4.1 to 4.13 and 4.15). No range is stated anywhere else.
-use Rattle.std.specs.Prelude.{Bool, false, not, ◌&&◌, eqb, ℤ, pos}
+-- The thirteen settings and their ranges, over words of any size (rules 4.1 to 4.13). No range is stated anywhere else.
+use Rattle.std.specs.Prelude.{Bool, not, ◌&&◌, ℤ, pos}
 use Rattle.std.specs.Int.Signed.{le_z, lt_z}
 use Rattle.numbers.specs.Integers.{up}
 use Rattle.numbers.specs.declared.ruling.Ruling.{Ruling}
@@ -15,12 +15,11 @@ use Rattle.rules_settings.specs.declared.Set.TheVariants.{Accepted, Refused}
 abbrev pub is_between : ℤ → ℤ → ℤ → Bool
 is_between low x high = not (lt_z x low) && le_z x high
 
--- rules 4.3 to 4.7 and 4.15; domain and own port have no range
+-- rules 4.3 to 4.7; domain and own port have no range
 unfoldable pub steering_fits : Given → Bool
 steering_fits g =
-    (((is_between (pos 0) g.announce (pos 4) && is_between (pos 0) g.sync (pos 7)) && (is_between (pos 100) g.kp (pos 1000) && is_between (pos 10) g.ki (pos 500)))
-    && is_between (pos 1) g.limit (pos 100_000))
-    && is_between (pos 0) g.unicast (pos 1)
+    ((is_between (pos 0) g.announce (pos 4) && is_between (pos 0) g.sync (pos 7)) && (is_between (pos 100) g.kp (pos 1000) && is_between (pos 10) g.ki (pos 500)))
+    && is_between (pos 1) g.limit (pos 100_000)
 
 -- rules 4.8 to 4.13
 unfoldable pub watch_fits : Given → Bool
@@ -28,7 +27,7 @@ watch_fits g =
     ((is_between (pos 2) g.window (pos 128) && is_between (pos 2) g.minimum g.window) && (is_between (pos 0) g.holdoff (pos 10) && is_between (pos 0) g.tolerance (pos 100_000_000)))
     && (is_between (pos 1) g.spike (pos 999_999_998) && (lt_z g.spike g.jump && le_z g.jump (pos 999_999_999)))
 
--- the settings as given: `up z` is z where z is no less than 0, and unicast is set where 1 is given
+-- the settings as given: `up z` is z where z is no less than 0
 abbrev pub as_given : Given → Settings
 as_given g =
     record {
@@ -40,7 +39,6 @@ as_given g =
       ki = up g.ki;
       limit = record { 0 = pos (up g.limit) };
       watch = record { window = up g.window; minimum = up g.minimum; holdoff = up g.holdoff; tolerance = up g.tolerance; spike = up g.spike; jump = up g.jump };
-      unicast = eqb (up g.unicast) 1;
     }
 
 abbrev pub set_unless_barred : Ruling → Settings → Set
@@ -63,5 +61,4 @@ bare_settings =
       ki = 0;
       limit = record { 0 = pos 0 };
       watch = record { window = 0; minimum = 0; holdoff = 0; tolerance = 0; spike = 0; jump = 0 };
-      unicast = false;
     }

@@ -1,4 +1,4 @@
-// The fourteen settings, and the one place where their ranges are asked.
+// The thirteen settings, and the one place where their ranges are asked.
 ghost use Rattle.std.specs.Prelude.{◌≡◌, ◌&&◌, min};
 ghost use Rattle.numbers.specs.Integers.{up};
 ghost use Rattle.rules_settings.specs.Ranges.{is_between, steering_fits, watch_fits, settings_of, bare_settings};
@@ -19,7 +19,6 @@ pub struct Settings {
     pub ki: u16, // in thousandths
     pub limit: Ppb,
     pub watch: rules_watch::settings::WatchSettings,
-    pub unicast: bool, // a message needs its sender's grant
 }
 
 // The settings as they are given: words of any size.
@@ -39,7 +38,6 @@ pub struct Given {
     pub tolerance: i64,
     pub spike: i64,
     pub jump: i64,
-    pub unicast: i64, // 0 or 1
 }
 
 #[derive(Drop)]
@@ -74,7 +72,6 @@ impl Settings {
             ki: 0,
             limit: Ppb(0),
             watch,
-            unicast: false,
         }
     }
 }
@@ -105,14 +102,13 @@ fn narrow(x: i64, high: u32) -> u32
 }
 
 impl Given {
-    // The exponents, the gains, the limit and unicast are in their ranges.
+    // The exponents, the gains and the limit are in their ranges.
     fn steering_fits(self) -> bool
         ensures { result ≡ steering_fits self }
     {
         let exponents = both(between(0, self.announce, 4), between(0, self.sync, 7));
         let gains = both(between(100, self.kp, 1000), between(10, self.ki, 500));
-        let steers = both(both(exponents, gains), between(1, self.limit, 100_000));
-        both(steers, between(0, self.unicast, 1))
+        both(both(exponents, gains), between(1, self.limit, 100_000))
     }
 
     // Those of the watch are.
@@ -154,7 +150,6 @@ impl Given {
             ki: narrow(self.ki, 65_535) as u16,
             limit: Ppb(narrow(self.limit, 2_147_483_647) as i32),
             watch,
-            unicast: narrow(self.unicast, 1) == 1,
         }
     }
 

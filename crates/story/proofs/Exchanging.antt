@@ -36,9 +36,8 @@ use Rattle.story_exchange.proofs.Tells.{Tells as ExchangeTells, fresh-tells}
 use Rattle.story_exchange.proofs.Refines.{step as exchange-step}
 use Rattle.story_servo.proofs.Refines.{Tells as ServoTells, step as servo-step}
 use Rattle.story_masters.proofs.Refines.{Tells as SeatTells}
-use Rattle.story_grants.proofs.Told.{Told as GrantsTold}
 use Rattle.story_lists.specs.Reading.{all, since}
-use Rattle.story.specs.Book.{Book, entry, a_wipe, a_now, a_request_call, a_pulse, an_exchange_entry, offset_by, then, said_by, chosen, faulty, sequence, stays_in, seats, grants, exchange_log, offsets, ahead_first, samples_of}
+use Rattle.story.specs.Book.{Book, entry, a_wipe, a_now, a_request_call, a_pulse, an_exchange_entry, offset_by, then, said_by, chosen, faulty, sequence, stays_in, seats, exchange_log, offsets, ahead_first, samples_of}
 use Rattle.story.specs.Saying.{output_of, unit_answer}
 use Rattle.story.proofs.Tells.{Tells, Agrees, fresh-servo}
 
@@ -53,15 +52,14 @@ pub record Plain (s : Settings) (b : Book) (p : Past) (call : Call) (now : ℕ) 
   pub requests : (u : Answer) → a_request_call (entry call u) ≡ none
   pub stays : k ≡ record { now = now; chosen = chosen b; faulty = faulty b; sequence = sequence b }
   pub seats : (u : Answer) → SeatTells (interval_of s.announce) (seats s (entry call u ∷ b)) (record { table = p.table; last = now })
-  pub grants : (u : Answer) → GrantsTold (grants (entry call u ∷ b)) p.grants now
   pub enters : (u : Answer) (said : Said) → said_by u ≡ some said → an_exchange_entry s.own (entry call u) ≡ some (exchange_entry e said)
 
 module _ (s : Settings) (b : Book) (p : Past) (h : Tells s b p) where
   -- ---- a wipe
   pub wiped-tells : (call : Call) (t : Table) (u : Answer) (k : Stays) → is_refusal u ≡ false → a_wipe (entry call u) ≡ some u → k ≡ stays_in (entry call u ∷ b)
-      → SeatTells (interval_of s.announce) (seats s (entry call u ∷ b)) (record { table = t; last = k.now }) → GrantsTold (grants (entry call u ∷ b)) p.grants k.now → Agrees s b p call t p.grants u (wipes u k)
+      → SeatTells (interval_of s.announce) (seats s (entry call u ∷ b)) (record { table = t; last = k.now }) → Agrees s b p call t u (wipes u k)
   unfolding all since ahead_first samples_of
-  wiped-tells call t u k r w st se gr =
+  wiped-tells call t u k r w st se =
       record {
         says = refl;
         tells =
@@ -69,7 +67,6 @@ module _ (s : Settings) (b : Book) (p : Past) (h : Tells s b p) where
             (record {
               stays = st;
               seats = se;
-              grants = gr;
               exchange = rw w fresh-tells;
               servo = rw w (fresh-servo s);
               measured = rw w;
@@ -85,7 +82,7 @@ module _ (s : Settings) (b : Book) (p : Past) (h : Tells s b p) where
   module _ (call : Call) (now : ℕ) (e : Event) (k : Stays) (f : Plain s b p call now e k) where
     -- nothing but the exchange changes
     went : (said : Said) (x : Exchange) → wipes_of said ≡ false → then (verdict_of said) offset_by ≡ none → faults_of said ≡ false → ExchangeTells (exchange_entry e said ∷ exchange_log s b) x
-        → Agrees s b p call p.table p.grants (answers.Exchange said (output_of s (offsets b))) (goes (answers.Exchange said p.progress.servo.output) k (with_exchange p.progress x))
+        → Agrees s b p call p.table (answers.Exchange said (output_of s (offsets b))) (goes (answers.Exchange said p.progress.servo.output) k (with_exchange p.progress x))
     unfolding all since
     went said x w o y xt =
         let u = answers.Exchange said (output_of s (offsets b)) in
@@ -95,7 +92,6 @@ module _ (s : Settings) (b : Book) (p : Past) (h : Tells s b p) where
               record {
                 stays = rw (f.nows u, y, f.requests u) f.stays;
                 seats = rw f.stays (f.seats u);
-                grants = rw f.stays (f.grants u);
                 exchange = rw (w, f.enters u said refl) xt;
                 servo = rw (w, o) h.servo;
                 measured = rw (w, o) h.measured;
@@ -106,7 +102,7 @@ module _ (s : Settings) (b : Book) (p : Past) (h : Tells s b p) where
 
     -- an accepted measurement: the servo too
     steered : (m : Accepted) (x : Exchange) → held_offset m.offset.0 ≡ m.offset.0 → ExchangeTells (exchange_entry e (says.Measured m) ∷ exchange_log s b) x
-        → Agrees s b p call p.table p.grants (answers.Exchange (says.Measured m) (output_of s (m.offset.0 ∷ offsets b)))
+        → Agrees s b p call p.table (answers.Exchange (says.Measured m) (output_of s (m.offset.0 ∷ offsets b)))
         (goes (answers.Exchange (says.Measured m) (progress_after s p.progress x m now).servo.output) k (progress_after s p.progress x m now))
     unfolding all since
     steered m x small xt =
@@ -121,7 +117,6 @@ module _ (s : Settings) (b : Book) (p : Past) (h : Tells s b p) where
               record {
                 stays = rw (f.nows u, f.requests u) f.stays;
                 seats = rw f.stays (f.seats u);
-                grants = rw f.stays (f.grants u);
                 exchange = rw (f.enters u (says.Measured m) refl) xt;
                 servo = v;
                 measured = rw (f.nows u);
@@ -132,7 +127,7 @@ module _ (s : Settings) (b : Book) (p : Past) (h : Tells s b p) where
 
     -- HUGE for the third time
     faulted : (x : Exchange) → ExchangeTells (exchange_entry e says.HugeFaulty ∷ exchange_log s b) x
-        → Agrees s b p call p.table p.grants (answers.Exchange says.HugeFaulty (output_of s (offsets b)))
+        → Agrees s b p call p.table (answers.Exchange says.HugeFaulty (output_of s (offsets b)))
         (goes (answers.Exchange says.HugeFaulty p.progress.servo.output) (faulty_at k.now k) (with_exchange p.progress x))
     unfolding all since
     faulted x xt =
@@ -143,7 +138,6 @@ module _ (s : Settings) (b : Book) (p : Past) (h : Tells s b p) where
               record {
                 stays = rw (f.nows u, f.requests u, f.stays);
                 seats = rw f.stays (f.seats u);
-                grants = rw f.stays (f.grants u);
                 exchange = rw (f.enters u says.HugeFaulty refl) xt;
                 servo = h.servo;
                 measured = h.measured;
@@ -154,14 +148,14 @@ module _ (s : Settings) (b : Book) (p : Past) (h : Tells s b p) where
 
     -- one of the exchange's three wipes: the output is 0 after it
     ended : (said : Said) → wipes_of said ≡ true → faults_of said ≡ false
-        → Agrees s b p call p.table p.grants (answers.Exchange said (record { 0 = pos 0 })) (wipes (answers.Exchange said (record { 0 = pos 0 })) k)
+        → Agrees s b p call p.table (answers.Exchange said (record { 0 = pos 0 })) (wipes (answers.Exchange said (record { 0 = pos 0 })) k)
     unfolding all since
     ended said w y =
         let u = answers.Exchange said (record { 0 = pos 0 }) in
-        wiped-tells call p.table u k refl (rw w) (rw (f.nows u, y, f.requests u) f.stays) (rw f.stays (f.seats u)) (rw f.stays (f.grants u))
+        wiped-tells call p.table u k refl (rw w) (rw (f.nows u, y, f.requests u) f.stays) (rw f.stays (f.seats u))
 
     meet : (a : Told) → ((m : Accepted) → a ≡ tells.Says (says.Measured m) → held_offset m.offset.0 ≡ m.offset.0) → (x : Exchange)
-        → ExchangeTells (log_with e a (exchange_log s b)) (exchange_after (record { answer = a; exchange = x })) → Agrees s b p call p.table p.grants (unit_answer s b a) (by_answer s k p.progress a x)
+        → ExchangeTells (log_with e a (exchange_log s b)) (exchange_after (record { answer = a; exchange = x })) → Agrees s b p call p.table (unit_answer s b a) (by_answer s k p.progress a x)
     unfolding by_said
     meet (tells.Refused n) g x xt = record { says = refl; tells = h }
     meet (tells.Says says.Held) g x xt = went says.Held x refl refl refl xt
@@ -177,14 +171,14 @@ module _ (s : Settings) (b : Book) (p : Past) (h : Tells s b p) where
     meet (tells.Says says.PathWiped) g x xt = ended says.PathWiped refl refl
     meet (tells.Says (says.Step o)) g x xt = ended (says.Step o) refl refl
     meet (tells.Says (says.Measured m)) g x xt =
-        subst (λ (n : ℕ). Agrees s b p call p.table p.grants (unit_answer s b (tells.Says (says.Measured m))) (goes (answers.Exchange (says.Measured m) (output_after s p.progress m)) k (progress_after s p.progress x m n)))
+        subst (λ (n : ℕ). Agrees s b p call p.table (unit_answer s b (tells.Says (says.Measured m))) (goes (answers.Exchange (says.Measured m) (output_after s p.progress m)) k (progress_after s p.progress x m n)))
         (sym (ap (λ (j : Stays). j.now) f.stays)) (steered m x (g m refl) xt)
 
-    pub exchange-told : Agrees s b p call p.table p.grants (unit_answer s b (exchange_answer (exchange_log s b) e)) (exchanges s k p.progress (told p.progress.exchange e))
+    pub exchange-told : Agrees s b p call p.table (unit_answer s b (exchange_answer (exchange_log s b) e)) (exchanges s k p.progress (told p.progress.exchange e))
     exchange-told =
         let d = exchange-step (exchange_log s b) p.progress.exchange h.exchange e in
         let a = exchange_answer (exchange_log s b) e in
         let x = (told p.progress.exchange e).exchange in
-        subst (λ (t : Told). Agrees s b p call p.table p.grants (unit_answer s b a) (by_answer s k p.progress t x)) (sym d.says)
+        subst (λ (t : Told). Agrees s b p call p.table (unit_answer s b a) (by_answer s k p.progress t x)) (sym d.says)
         (meet a (λ m q. small m (accepted-range p.progress.exchange e m (d.says ∙ q))) x
         (subst (λ (t : Told). ExchangeTells (log_with e a (exchange_log s b)) (exchange_after (record { answer = t; exchange = x }))) d.says d.tells))

@@ -1,4 +1,4 @@
--- The calls that the exchange is not told of: an Announce, a Signaling, the bare time call, the second pulse, the line and what is shown.
+-- The calls that the exchange is not told of: an Announce, the bare time call, the second pulse, the line and what is shown.
 use mathlib.Core.Path.{◌≡◌, refl, sym, ap, ◌∙◌, subst}
 use mathlib.Core.List.{List, [], ◌∷◌, ◌++◌}
 use mathlib.Core.Option.{Option, none, some}
@@ -12,12 +12,8 @@ use lib.Signed.{le_z}
 use Rattle.numbers.specs.declared.refusal.Refusal.TheVariants.{Now, Tick}
 use Rattle.numbers.specs.declared.units.Ppb.{Ppb}
 use Rattle.numbers.specs.declared.stamp.Stamp.{Stamp}
-use Rattle.numbers.specs.declared.ruling.Ruling.{Ruling}
-use Rattle.numbers.specs.declared.ruling.Ruling.TheVariants.{Clear, Barred}
 use Rattle.numbers.specs.Grounds.{first_of}
-use Rattle.numbers.proofs.Grounds.{clear-cons}
 use Rattle.numbers.specs.Orders.{none_due, due_with, of_time}
-use Rattle.wire_layout.specs.declared.message.Port.{Port}
 use Rattle.wire_layout.specs.declared.message.Header.{Header}
 use Rattle.wire_layout.specs.declared.message.Offer.{Offer}
 use Rattle.wire_layout.specs.declared.message.Body.TheVariants as bodies
@@ -25,7 +21,6 @@ use Rattle.rules_masters.specs.declared.table.Table.{Table}
 use Rattle.rules_masters.specs.declared.chosen.Chosen.{Chosen}
 use Rattle.rules_masters.specs.declared.chosen.Decision.TheVariants.{Same, Changed}
 use Rattle.rules_masters.specs.declared.record.Announce.{Announce}
-use Rattle.rules_masters.specs.declared.admission.Admitted.{Admitted}
 use Rattle.rules_masters.specs.declared.admission.Answer.{Answer as Admission}
 use Rattle.rules_masters.specs.declared.admission.Answer.TheVariants as admission
 use Rattle.rules_masters.specs.Records.{interval_of}
@@ -42,35 +37,27 @@ use Rattle.rules_watch.specs.declared.Drift.TheVariants as drift
 use Rattle.rules_watch.specs.Rules.{Since, Stamps as Given, pulse_of, outcome, on_last, sample_after, outside_of, apart, line_since, since_by}
 use Rattle.rules_watch.proofs.Outcomes.{outcome-is}
 use Rattle.rules_watch.proofs.Story.{Proper, proper}
-use Rattle.rules_masters.proofs.Early.{early-admitted, Later, admitted-later}
-use Rattle.rules_grants.specs.declared.notice.Notice.{Notice}
-use Rattle.rules_grants.specs.Grants.{full_of, heeded_of}
 use Rattle.rules_settings.specs.declared.Settings.{Settings}
 use Rattle.unit_core.specs.declared.calls.Call.{Call}
 use Rattle.unit_core.specs.declared.calls.Call.TheVariants as calls
 use Rattle.unit_core.specs.declared.calls.Answer.{Answer}
 use Rattle.unit_core.specs.declared.calls.Answer.TheVariants as answers
-use Rattle.unit_core.specs.Effects.{Stays, keeps, goes, takes, wipes, unless, with_now}
+use Rattle.unit_core.specs.Effects.{Stays, keeps, goes, takes, wipes, unless}
 use Rattle.unit_core.specs.Showing.{port_of, shows_of}
 use Rattle.unit_choosing.specs.Choosing.{time_due, admission as admitting, with_chosen, holds_by, holds, time_passes, chooses as chooses_anew, admits, announces as announcing}
-use Rattle.unit_granting.specs.Granting.{ungranted_of, signaling_bars, signals, grants_unless, signaled_in}
 use Rattle.unit_ticking.specs.Ticking.{ticks, line_by}
 use Rattle.unit.specs.Machine.{Past, past_by}
 use Rattle.story_masters.specs.Announces.{Log as SeatLog, came, last_now as last_seen}
 use Rattle.story_masters.specs.Places.{answer as seat_answer, chosen_in}
 use Rattle.story_masters.specs.History.{log_by, last_after, log as seats_after}
 use Rattle.story_masters.proofs.Refines.{Tells as SeatTells, step as seat-step, chooses as seat-chooses}
-use Rattle.story_masters.proofs.Granted.{granted-renewed, granted-entered}
-use Rattle.story_grants.specs.Signalings.{full_in}
-use Rattle.story_grants.proofs.Told.{Told as GrantsTold, later as grants-later, heeds-told}
 use Rattle.story_lists.specs.Reading.{all, since}
-use Rattle.story.specs.Book.{Book, entry, a_now, a_pulse, a_request_call, an_exchange_entry, is_some, chosen, faulty, sequence, seats, grants, last_measured, samples, since_wipe, y_after, sample_of, ahead_first, samples_of, wipe_count}
-use Rattle.story.specs.Saying.{unless_barred, choice_answer, admission_answer, ungranted, signaling_answer, pulse_answer, overdue, answer}
+use Rattle.story.specs.Book.{Book, entry, a_now, a_pulse, a_request_call, an_exchange_entry, is_some, chosen, faulty, sequence, seats, last_measured, samples, since_wipe, y_after, sample_of, ahead_first, samples_of, wipe_count}
+use Rattle.story.specs.Saying.{unless_barred, choice_answer, admission_answer, pulse_answer, overdue, answer}
 use Rattle.story.specs.Tale.{book_with}
 use Rattle.story.proofs.Tells.{Tells, Agrees}
 use Rattle.story.proofs.Exchanging.{wiped-tells}
-use Rattle.story.proofs.Granting.{ungranted-same, full-same}
-use Rattle.story.proofs.Calling.{seats-now, grants-now}
+use Rattle.story.proofs.Calling.{seats-now}
 
 -- a pulse that is taken is the sample that the pulses before it make of it
 abbrev since_of_pulses : WatchSettings → List Given → Since
@@ -138,19 +125,18 @@ module _ (s : Settings) (b : Book) (p : Past) (h : Tells s b p) where
   -- ---- a choice
   module _ (call : Call) (now : ℕ) (t : Table) (nows : (u : Answer) → a_now (entry call u) ≡ some now) (pulses : (u : Answer) → a_pulse (entry call u) ≡ none)
       (requests : (u : Answer) → a_request_call (entry call u) ≡ none) (entries : (u : Answer) → an_exchange_entry s.own (entry call u) ≡ none)
-      (st : (u : Answer) → SeatTells (interval_of s.announce) (seats s (entry call u ∷ b)) (record { table = t; last = now }))
-      (gt : (u : Answer) → GrantsTold (grants (entry call u ∷ b)) p.grants now) where
-    chosen-told : (c d : Chosen) → c ≡ d → Agrees s b p call t p.grants (answers.Choice (decision_of (chosen b) d)) (holds K p.progress now c)
+      (st : (u : Answer) → SeatTells (interval_of s.announce) (seats s (entry call u ∷ b)) (record { table = t; last = now })) where
+    chosen-told : (c d : Chosen) → c ≡ d → Agrees s b p call t (answers.Choice (decision_of (chosen b) d)) (holds K p.progress now c)
     unfolding all since
     chosen-told c d e =
-        subst (λ (i : Chosen). Agrees s b p call t p.grants (answers.Choice (decision_of (chosen b) i)) (holds K p.progress now c)) e
-        (subst (λ (k : Stays). Agrees s b p call t p.grants (answers.Choice (decision_of k.chosen c)) (holds K p.progress now c)) h.stays
+        subst (λ (i : Chosen). Agrees s b p call t (answers.Choice (decision_of (chosen b) i)) (holds K p.progress now c)) e
+        (subst (λ (k : Stays). Agrees s b p call t (answers.Choice (decision_of k.chosen c)) (holds K p.progress now c)) h.stays
         (go (same_master_of K.chosen c)))
       where
         stay : (u : Answer) → with_chosen K now c ≡ record { now = now; chosen = c; faulty = faulty b; sequence = sequence b }
         stay u = ap (λ (k : Stays). with_chosen k now c) h.stays
 
-        go : (i : Bool) → Agrees s b p call t p.grants (answers.Choice (cond i (Same c) (Changed c))) (holds_by K p.progress now c (cond i (Same c) (Changed c)))
+        go : (i : Bool) → Agrees s b p call t (answers.Choice (cond i (Same c) (Changed c))) (holds_by K p.progress now c (cond i (Same c) (Changed c)))
         go true =
             let u = answers.Choice (Same c) in
             record {
@@ -159,7 +145,6 @@ module _ (s : Settings) (b : Book) (p : Past) (h : Tells s b p) where
                   record {
                     stays = rw (nows u, requests u) (stay u);
                     seats = st u;
-                    grants = gt u;
                     exchange = rw (entries u) h.exchange;
                     servo = h.servo;
                     measured = h.measured;
@@ -167,147 +152,65 @@ module _ (s : Settings) (b : Book) (p : Past) (h : Tells s b p) where
                     count = h.count;
                   };
             }
-        go false = let u = answers.Choice (Changed c) in wiped-tells s b p h call t u (with_chosen K now c) refl refl (rw (nows u, requests u) (stay u)) (st u) (gt u)
+        go false = let u = answers.Choice (Changed c) in wiped-tells s b p h call t u (with_chosen K now c) refl refl (rw (nows u, requests u) (stay u)) (st u)
 
   -- ---- an Announce
-  module _ (now : ℕ) (t2 : Stamp) (notice : Notice) (hd : Header) (stamp : Stamp) (offer : Offer) where
+  module _ (now : ℕ) (t2 : Stamp) (hd : Header) (stamp : Stamp) (offer : Offer) where
     abbrev M : Announce
     M = record { header = hd; stamp = stamp; offer = offer }
 
     abbrev Announced : Call
-    Announced = calls.Receive now t2 (record { header = hd; body = bodies.Announce stamp offer }) notice
-
-    -- whether its grant is missing, by the grants held and by the book
-    abbrev Held : Bool
-    Held = ungranted_of s p.grants now hd (bodies.Announce stamp offer)
-
-    abbrev Read : Bool
-    Read = ungranted s b now hd (bodies.Announce stamp offer)
-
-    admitted-same : admitting s K p.table now M Held ≡ admitting s K p.table now M Read
-    admitted-same = by (ltb now K.now) refl
-      where
-        by : (c : Bool) → ltb now K.now ≡ c → admitting s K p.table now M Held ≡ admitting s K p.table now M Read
-        by true e = early-admitted p.table M s.domain s.own s.announce K.now now Held Read e
-        by false e = ap (λ (u : Bool). admitting s K p.table now M u) (ungranted-same s b p h now hd (bodies.Announce stamp offer) (ltb-false now K.now e))
+    Announced = calls.Receive now t2 (record { header = hd; body = bodies.Announce stamp offer })
 
     abbrev T : Table
-    T = (admitting s K p.table now M Read).table
+    T = (admitting s K p.table now M).table
 
     abbrev Said : Admission
-    Said = seat_answer s.domain s.own s.announce (seats s b) M now Read
+    Said = seat_answer s.domain s.own s.announce (seats s b) M now
 
-    announce-read : Agrees s b p Announced T p.grants (admission_answer s b now M Said) (admits s K p.progress T now (admitting s K p.table now M Read).answer)
-    unfolding chooses_anew all seats_after
-    announce-read =
-        let d = seat-step s.domain s.own s.announce (seats s b) (record { table = p.table; last = K.now }) h.seats M now Read in
-        subst (λ (a : Admission). Agrees s b p Announced T p.grants (admission_answer s b now M Said) (admits s K p.progress T now a)) (sym d.says)
-        (go Said refl (subst (λ (a : Admission). SeatTells (interval_of s.announce) (log_by (seats s b) now M Said) (record { table = T; last = last_after K.now now a })) d.says d.tells)
-        (subst (λ (a : Admission). Later a K.now now) d.says (admitted-later p.table M s.domain s.own s.announce K.now now Read)))
+    pub announce-told : Agrees s b p Announced T (admission_answer s b now M Said) (announcing s K p.progress p.table now M)
+    unfolding announcing chooses_anew all seats_after
+    announce-told =
+        let d = seat-step s.domain s.own s.announce (seats s b) (record { table = p.table; last = K.now }) h.seats M now in
+        subst (λ (a : Admission). Agrees s b p Announced T (admission_answer s b now M Said) (admits s K p.progress T now a)) (sym d.says)
+        (go Said refl (subst (λ (a : Admission). SeatTells (interval_of s.announce) (log_by (seats s b) now M Said) (record { table = T; last = last_after K.now now a })) d.says d.tells))
       where
-        -- accepted, and so not for want of a grant refused: the log of the masters asks for none
-        told : (l : SeatLog) → last_seen l ≤ now → SeatTells (interval_of s.announce) l (record { table = T; last = now })
-            → log_by (seats s b) now M (seat_answer s.domain s.own s.announce (seats s b) M now false) ≡ l → K.now ≤ now
-            → Agrees s b p Announced T p.grants (choice_answer s b now l) (chooses_anew s K p.progress T now)
-        told l later st e le =
-            chosen-told Announced now T (λ u. refl) (λ u. refl) (λ u. refl) (λ u. refl) (λ u. rw e st)
-            (λ u. grants-later (grants b) p.grants K.now now le h.grants) (chosen_at T.records now s.announce) (chosen_in s.announce l now)
+        told : (l : SeatLog) → last_seen l ≤ now → SeatTells (interval_of s.announce) l (record { table = T; last = now }) → log_by (seats s b) now M Said ≡ l
+            → Agrees s b p Announced T (choice_answer s b now l) (chooses_anew s K p.progress T now)
+        told l later st e =
+            chosen-told Announced now T (λ u. refl) (λ u. refl) (λ u. refl) (λ u. refl) (λ u. rw e st) (chosen_at T.records now s.announce) (chosen_in s.announce l now)
             (seat-chooses s.domain s.own s.announce l (record { table = T; last = now }) st now later)
 
-        go : (a : Admission) → Said ≡ a → SeatTells (interval_of s.announce) (log_by (seats s b) now M a) (record { table = T; last = last_after K.now now a }) → Later a K.now now
-            → Agrees s b p Announced T p.grants (admission_answer s b now M a) (admits s K p.progress T now a)
-        go (admission.Refused n) e st le =
+        go : (a : Admission) → Said ≡ a → SeatTells (interval_of s.announce) (log_by (seats s b) now M a) (record { table = T; last = last_after K.now now a })
+            → Agrees s b p Announced T (admission_answer s b now M a) (admits s K p.progress T now a)
+        go (admission.Refused n) e st =
             record {
               says = refl;
               tells =
-                  record { stays = h.stays; seats = st; grants = h.grants; exchange = h.exchange; servo = h.servo; measured = h.measured; since = h.since; count = h.count };
+                  record { stays = h.stays; seats = st; exchange = h.exchange; servo = h.servo; measured = h.measured; since = h.since; count = h.count };
             }
-        go (admission.Renewed i) e st le =
-            told (came i now M ∷ seats s b) (omega arith) st
-            (ap (λ (a : Admission). log_by (seats s b) now M a) (granted-renewed s.domain s.own s.announce (seats s b) M now Read i e)) le
-        go (admission.Entered i) e st le =
-            told (came i now M ∷ seats s b) (omega arith) st
-            (ap (λ (a : Admission). log_by (seats s b) now M a) (granted-entered s.domain s.own s.announce (seats s b) M now Read i e)) le
-
-    pub announce-told : Agrees s b p Announced (admitting s K p.table now M Held).table p.grants (admission_answer s b now M Said) (announcing s K p.progress p.table now M Held)
-    unfolding announcing
-    announce-told =
-        subst (λ (x : Admitted). Agrees s b p Announced x.table p.grants (admission_answer s b now M Said) (admits s K p.progress x.table now x.answer)) (sym admitted-same) announce-read
-
-  -- ---- a Signaling
-  module _ (now : ℕ) (t2 : Stamp) (notice : Notice) (hd : Header) (target : Port) where
-    abbrev Signaling : Call
-    Signaling = calls.Receive now t2 (record { header = hd; body = bodies.Signaling target }) notice
-
-    abbrev Full : Bool
-    Full = full_of p.grants hd.source now notice
-
-    abbrev ReadFull : Bool
-    ReadFull = full_in (grants b) hd.source now notice
-
-    signaling-same : signaling_bars s K now hd target notice Full ≡ signaling_bars s K now hd target notice ReadFull
-    unfolding signaling_bars first_of
-    signaling-same = by (ltb now K.now) refl
-      where
-        by : (c : Bool) → ltb now K.now ≡ c → signaling_bars s K now hd target notice Full ≡ signaling_bars s K now hd target notice ReadFull
-        by true e = rw e
-        by false e = ap (λ (f : Bool). signaling_bars s K now hd target notice f) (full-same s b p h now hd notice (ltb-false now K.now e))
-
-    heeded : signaling_bars s K now hd target notice ReadFull ≡ Clear → Agrees s b p Signaling p.table (heeded_of p.grants hd.source now notice) answers.Signaled (goes answers.Signaled (with_now now K) p.progress)
-    unfolding signaling_bars all since
-    heeded q =
-        let first = clear-cons _ _ q in
-        let full = (clear-cons _ _ (clear-cons _ _ (clear-cons _ _ (clear-cons _ _ first.1).1).1).1).0 in
-        let le = ltb-false now K.now first.0 in
-        record {
-          says = refl;
-          tells =
-              record {
-                stays = ap (λ (k : Stays). with_now now k) h.stays;
-                seats = seats-now s b p h now first.0;
-                grants = heeds-told (grants b) p.grants K.now h.grants hd.source now notice le full;
-                exchange = h.exchange;
-                servo = h.servo;
-                measured = h.measured;
-                since = h.since;
-                count = h.count;
-              };
-        }
-
-    pub signaling-told : Agrees s b p Signaling p.table (signaled_in s K p.grants now hd target notice) (signaling_answer s b now notice hd target) (signals s K p.progress now hd target notice Full)
-    signaling-told =
-        rw signaling-same
-        (subst
-        (λ (k : Stays). Agrees s b p Signaling p.table (grants_unless Bars (heeded_of p.grants hd.source now notice) p.grants) (unless_barred (signaling_bars s k now hd target notice ReadFull) answers.Signaled) (unless Bars (goes answers.Signaled (with_now now K) p.progress)))
-        h.stays (go Bars refl))
-      where
-        Bars : Ruling
-        Bars = signaling_bars s K now hd target notice ReadFull
-
-        go : (v : Ruling) → Bars ≡ v
-            → Agrees s b p Signaling p.table (grants_unless v (heeded_of p.grants hd.source now notice) p.grants) (unless_barred v answers.Signaled) (unless v (goes answers.Signaled (with_now now K) p.progress))
-        go Clear q = heeded q
-        go (Barred r) q = record { says = refl; tells = h }
+        go (admission.Renewed i) e st = told (came i now M ∷ seats s b) (omega arith) st (ap (λ (a : Admission). log_by (seats s b) now M a) e)
+        go (admission.Entered i) e st = told (came i now M ∷ seats s b) (omega arith) st (ap (λ (a : Admission). log_by (seats s b) now M a) e)
 
   -- ---- the time call
-  pub time-told : (now : ℕ) → Agrees s b p (calls.Time now) p.table p.grants (answer s b (calls.Time now)) (time_passes s K p.progress p.table now)
+  pub time-told : (now : ℕ) → Agrees s b p (calls.Time now) p.table (answer s b (calls.Time now)) (time_passes s K p.progress p.table now)
   unfolding answer time_passes chooses_anew all first_of
   time-told now =
-      subst (λ (k : Stays). Agrees s b p (calls.Time now) p.table p.grants (unless_barred (first_of (of_time (time_due k.now now))) (choice_answer s b now (seats s b))) (time_passes s K p.progress p.table now)) h.stays
+      subst (λ (k : Stays). Agrees s b p (calls.Time now) p.table (unless_barred (first_of (of_time (time_due k.now now))) (choice_answer s b now (seats s b))) (time_passes s K p.progress p.table now)) h.stays
       (go (ltb now K.now) refl)
     where
       go : (i : Bool) → ltb now K.now ≡ i
-          → Agrees s b p (calls.Time now) p.table p.grants (unless_barred (first_of (of_time (due_with Now i none_due))) (choice_answer s b now (seats s b))) (unless (first_of (of_time (due_with Now i none_due))) (chooses_anew s K p.progress p.table now))
+          → Agrees s b p (calls.Time now) p.table (unless_barred (first_of (of_time (due_with Now i none_due))) (choice_answer s b now (seats s b))) (unless (first_of (of_time (due_with Now i none_due))) (chooses_anew s K p.progress p.table now))
       go true e = record { says = refl; tells = h }
       go false e =
-          chosen-told (calls.Time now) now p.table (λ u. refl) (λ u. refl) (λ u. refl) (λ u. refl) (λ u. seats-now s b p h now e) (λ u. grants-now s b p h now e) (chosen_at p.table.records now s.announce) (chosen_in s.announce (seats s b) now)
+          chosen-told (calls.Time now) now p.table (λ u. refl) (λ u. refl) (λ u. refl) (λ u. refl) (λ u. seats-now s b p h now e) (chosen_at p.table.records now s.announce) (chosen_in s.announce (seats s b) now)
           (seat-chooses s.domain s.own s.announce (seats s b) (record { table = p.table; last = K.now }) h.seats now (omega (arith, h.seats.last, ltb-false now K.now e)))
 
   -- ---- the second pulse
-  pulse-told : (r c : ℤ) (o : Outcome) → outcome s.watch p.since r c ≡ o → Proper o → Agrees s b p (calls.Tick r c) p.table p.grants (pulse_answer s b o) (ticks K o)
+  pulse-told : (r c : ℤ) (o : Outcome) → outcome s.watch p.since r c ≡ o → Proper o → Agrees s b p (calls.Tick r c) p.table (pulse_answer s b o) (ticks K o)
   unfolding all since ahead_first samples_of
   pulse-told r c (Refuse n) e q = record { says = refl; tells = h }
-  pulse-told r c (Wipe a) e q = wiped-tells s b p h (calls.Tick r c) p.table (answers.Watch a) K refl (rw q) h.stays h.seats h.grants
+  pulse-told r c (Wipe a) e q = wiped-tells s b p h (calls.Tick r c) p.table (answers.Watch a) K refl (rw q) h.stays h.seats
   pulse-told r c (Take origin x) e q = record { says = refl; tells = go x.valid }
     where
       taken : since_by p.since (Take origin x) ≡ since_of_pulses s.watch (record { reference = r; clock = c } ∷ all a_pulse (since_wipe b))
@@ -315,31 +218,31 @@ module _ (s : Settings) (b : Book) (p : Past) (h : Tells s b p) where
           ap (λ (z : Since). since_by z (Take origin x)) h.since
           ∙ pulse-taken s.watch (all a_pulse (since_wipe b)) r c origin x (ap (λ (z : Since). outcome s.watch z r c) (sym h.since) ∙ e)
 
-      go : (v : Bool) → Tells s (book_with (calls.Tick r c) (answers.Watch (pulse_of v)) b) (past_by s p p.table p.grants (takes origin x))
-      go true = record { stays = h.stays; seats = h.seats; grants = h.grants; exchange = h.exchange; servo = h.servo; measured = h.measured; since = taken; count = h.count }
-      go false = record { stays = h.stays; seats = h.seats; grants = h.grants; exchange = h.exchange; servo = h.servo; measured = h.measured; since = taken; count = h.count }
+      go : (v : Bool) → Tells s (book_with (calls.Tick r c) (answers.Watch (pulse_of v)) b) (past_by s p p.table (takes origin x))
+      go true = record { stays = h.stays; seats = h.seats; exchange = h.exchange; servo = h.servo; measured = h.measured; since = taken; count = h.count }
+      go false = record { stays = h.stays; seats = h.seats; exchange = h.exchange; servo = h.servo; measured = h.measured; since = taken; count = h.count }
 
-  pub tick-told : (r c : ℤ) → Agrees s b p (calls.Tick r c) p.table p.grants (answer s b (calls.Tick r c)) (ticks K (outcome s.watch p.since r c))
+  pub tick-told : (r c : ℤ) → Agrees s b p (calls.Tick r c) p.table (answer s b (calls.Tick r c)) (ticks K (outcome s.watch p.since r c))
   unfolding answer
   tick-told r c =
-      subst (λ (z : Since). Agrees s b p (calls.Tick r c) p.table p.grants (pulse_answer s b (outcome s.watch z r c)) (ticks K (outcome s.watch p.since r c))) h.since
+      subst (λ (z : Since). Agrees s b p (calls.Tick r c) p.table (pulse_answer s b (outcome s.watch z r c)) (ticks K (outcome s.watch p.since r c))) h.since
       (pulse-told r c (outcome s.watch p.since r c) refl (proper s.watch p.since r c))
 
   -- ---- the line
-  line-by : (d : Drift) (n : ℕ) → Agrees s b p calls.Line p.table p.grants (line_by d n) (keeps (line_by d n))
+  line-by : (d : Drift) (n : ℕ) → Agrees s b p calls.Line p.table (line_by d n) (keeps (line_by d n))
   unfolding all since
   line-by (drift.Refused n) m = record { says = refl; tells = h }
   line-by (drift.Line l) m =
       record {
         says = refl;
-        tells = record { stays = h.stays; seats = h.seats; grants = h.grants; exchange = h.exchange; servo = h.servo; measured = h.measured; since = h.since; count = h.count };
+        tells = record { stays = h.stays; seats = h.seats; exchange = h.exchange; servo = h.servo; measured = h.measured; since = h.since; count = h.count };
       }
 
-  pub line-told : Agrees s b p calls.Line p.table p.grants (answer s b calls.Line) (keeps (line_by (line_since s.watch p.since) (p.count % 2 ^ 32)))
+  pub line-told : Agrees s b p calls.Line p.table (answer s b calls.Line) (keeps (line_by (line_since s.watch p.since) (p.count % 2 ^ 32)))
   unfolding answer
   line-told =
-      subst (λ (z : Since). Agrees s b p calls.Line p.table p.grants (line_by (line_since s.watch z) (wipe_count b % 2 ^ 32)) (keeps (line_by (line_since s.watch p.since) (p.count % 2 ^ 32)))) h.since
-      (subst (λ (n : ℕ). Agrees s b p calls.Line p.table p.grants (line_by (line_since s.watch p.since) (n % 2 ^ 32)) (keeps (line_by (line_since s.watch p.since) (p.count % 2 ^ 32)))) h.count
+      subst (λ (z : Since). Agrees s b p calls.Line p.table (line_by (line_since s.watch z) (wipe_count b % 2 ^ 32)) (keeps (line_by (line_since s.watch p.since) (p.count % 2 ^ 32)))) h.since
+      (subst (λ (n : ℕ). Agrees s b p calls.Line p.table (line_by (line_since s.watch p.since) (n % 2 ^ 32)) (keeps (line_by (line_since s.watch p.since) (p.count % 2 ^ 32)))) h.count
       (line-by (line_since s.watch p.since) (p.count % 2 ^ 32)))
 
   -- ---- what is shown
@@ -358,10 +261,10 @@ module _ (s : Settings) (b : Book) (p : Past) (h : Tells s b p) where
       overdue-is true t now = refl
       overdue-is false t now = refl
 
-  pub show-told : Agrees s b p calls.Show p.table p.grants (answer s b calls.Show) (keeps (answers.Shows (shows_of K p.progress (p.count % 2 ^ 32))))
+  pub show-told : Agrees s b p calls.Show p.table (answer s b calls.Show) (keeps (answers.Shows (shows_of K p.progress (p.count % 2 ^ 32))))
   unfolding answer all since
   show-told =
       record {
         says = shows_same;
-        tells = record { stays = h.stays; seats = h.seats; grants = h.grants; exchange = h.exchange; servo = h.servo; measured = h.measured; since = h.since; count = h.count };
+        tells = record { stays = h.stays; seats = h.seats; exchange = h.exchange; servo = h.servo; measured = h.measured; since = h.since; count = h.count };
       }

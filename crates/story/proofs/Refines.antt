@@ -6,16 +6,15 @@ use Rattle.wire_layout.specs.declared.message.Header.{Header}
 use Rattle.wire_layout.specs.declared.message.Body.{Body}
 use Rattle.wire_layout.specs.declared.message.Body.TheVariants as bodies
 use Rattle.numbers.specs.declared.stamp.Stamp.{Stamp}
-use Rattle.rules_grants.specs.declared.notice.Notice.{Notice}
 use Rattle.rules_settings.specs.declared.Settings.{Settings}
 use Rattle.unit_core.specs.declared.calls.Call.{Call}
 use Rattle.unit_core.specs.declared.calls.Call.TheVariants as calls
 use Rattle.unit.specs.declared.Unit.{Unit}
 use Rattle.unit_handing.specs.declared.Asked.{Asked}
 use Rattle.unit_handing.specs.declared.Asked.TheVariants.{Barred, Asks}
-use Rattle.unit.specs.Receiving.{receives, table_by, grants_by}
+use Rattle.unit.specs.Receiving.{receives, table_by}
 use Rattle.unit.specs.Machine.{Past, effect_after, past, answer_after}
-use Rattle.unit.specs.Calls.{table_after, grants_after, fresh_unit}
+use Rattle.unit.specs.Calls.{table_after, fresh_unit}
 use Rattle.unit_handing.specs.Handing.{Handed, asked_of, stepped_by, served_of, served_all, with_asked, calls_in}
 use Rattle.unit.proofs.Simulation.{played, all-answers}
 use Rattle.unit_handing.proofs.Served.{served-is, calls-reversed}
@@ -24,24 +23,22 @@ use Rattle.story.specs.Saying.{message_answer, answer}
 use Rattle.story.specs.Tale.{answer_to, book_by, book, answer_by_history}
 use Rattle.story.proofs.Tells.{Tells, start-tells, Agrees}
 use Rattle.story.proofs.Calling.{hears-sync, hears-follow, hears-resp, hears-req, sent-told, request-told, reset-told}
-use Rattle.story.proofs.Others.{announce-told, signaling-told, time-told, tick-told, line-told, show-told}
+use Rattle.story.proofs.Others.{announce-told, time-told, tick-told, line-told, show-told}
 
 module _ (s : Settings) (b : Book) (p : Past) (h : Tells s b p) where
-  receive-told : (now : ℕ) (t2 : Stamp) (notice : Notice) (hd : Header) (body : Body)
-      → Agrees s b p (calls.Receive now t2 (record { header = hd; body = body }) notice) (table_by s p.stays p.table p.grants now hd body)
-      (grants_by s p.stays p.grants now notice hd body) (message_answer s b now t2 notice hd body) (receives s p.stays p.progress p.table p.grants now t2 notice hd body)
-  receive-told now t2 notice hd (bodies.Announce stamp offer) = announce-told s b p h now t2 notice hd stamp offer
-  receive-told now t2 notice hd (bodies.DelayReq t) = hears-req s b p h now t2 notice hd t
-  receive-told now t2 notice hd (bodies.Sync t1) = hears-sync s b p h now t2 notice hd t1
-  receive-told now t2 notice hd (bodies.FollowUp t1) = hears-follow s b p h now t2 notice hd t1
-  receive-told now t2 notice hd (bodies.DelayResp t4 r) = hears-resp s b p h now t2 notice hd t4 r
-  receive-told now t2 notice hd (bodies.Signaling target) = signaling-told s b p h now t2 notice hd target
+  receive-told : (now : ℕ) (t2 : Stamp) (hd : Header) (body : Body)
+      → Agrees s b p (calls.Receive now t2 (record { header = hd; body = body })) (table_by s p.stays p.table now hd body) (message_answer s b now t2 hd body)
+      (receives s p.stays p.progress p.table now t2 hd body)
+  receive-told now t2 hd (bodies.Announce stamp offer) = announce-told s b p h now t2 hd stamp offer
+  receive-told now t2 hd (bodies.DelayReq t) = hears-req s b p h now t2 hd t
+  receive-told now t2 hd (bodies.Sync t1) = hears-sync s b p h now t2 hd t1
+  receive-told now t2 hd (bodies.FollowUp t1) = hears-follow s b p h now t2 hd t1
+  receive-told now t2 hd (bodies.DelayResp t4 r) = hears-resp s b p h now t2 hd t4 r
 
   -- one call
-  pub step : (call : Call)
-      → Agrees s b p call (table_after s p.stays p.table p.grants call) (grants_after s p.stays p.grants call) (answer s b call) (effect_after s p call)
+  pub step : (call : Call) → Agrees s b p call (table_after s p.stays p.table call) (answer s b call) (effect_after s p call)
   unfolding answer
-  step (calls.Receive now t2 m notice) = receive-told now t2 notice m.header m.body
+  step (calls.Receive now t2 m) = receive-told now t2 m.header m.body
   step (calls.Request now room) = request-told s b p h now room
   step (calls.Sent now n t3) = sent-told s b p h now n t3
   step (calls.Time now) = time-told s b p h now

@@ -7,7 +7,6 @@ use Prim.Native.Nat.{ℕ}
 use Rattle.rules_masters.specs.declared.table.Table.{Table}
 use Rattle.rules_masters.specs.Records.{interval_of}
 use Rattle.rules_servo.specs.Steps.{limit_of}
-use Rattle.rules_grants.specs.declared.grants.Grants.{Grants}
 use Rattle.rules_settings.specs.declared.Settings.{Settings}
 use Rattle.unit_core.specs.declared.calls.Call.{Call}
 use Rattle.unit_core.specs.declared.calls.Answer.{Answer}
@@ -17,9 +16,8 @@ use Rattle.story_exchange.proofs.Tells.{Tells as ExchangeTells, fresh-tells}
 use Rattle.story_servo.proofs.Refines.{machine as servo_machine, Tells as ServoTells, tells as servo-tells}
 use Rattle.story_masters.specs.History.{log as seats_after, machine as seat_machine}
 use Rattle.story_masters.proofs.Refines.{Tells as SeatTells, tells as seat-tells}
-use Rattle.story_grants.proofs.Told.{Told as GrantsTold, fresh-told}
 use Rattle.story_lists.specs.Reading.{all, since}
-use Rattle.story.specs.Book.{Book, stays_in, seats, grants, exchange_log, offsets, last_measured, samples, ahead_first, samples_of, wipe_count}
+use Rattle.story.specs.Book.{Book, stays_in, seats, exchange_log, offsets, last_measured, samples, ahead_first, samples_of, wipe_count}
 use Rattle.story.specs.Tale.{book_with}
 
 abbrev pub measured_read : Progress → Option ℕ
@@ -28,7 +26,6 @@ measured_read r = cond r.measured (some r.at) none
 pub record Tells (s : Settings) (b : Book) (p : Past) : Type 0 where
   pub stays : p.stays ≡ stays_in b
   pub seats : SeatTells (interval_of s.announce) (seats s b) (record { table = p.table; last = p.stays.now })
-  pub grants : GrantsTold (grants b) p.grants p.stays.now
   pub exchange : ExchangeTells (exchange_log s b) p.progress.exchange
   pub servo : ServoTells s.kp s.ki s.sync (limit_of s.limit.0) (offsets b) p.progress.servo
   pub measured : measured_read p.progress ≡ last_measured b
@@ -45,7 +42,6 @@ start-tells s =
     record {
       stays = refl;
       seats = seat-tells s.domain s.own s.announce [];
-      grants = fresh-told 0;
       exchange = fresh-tells;
       servo = fresh-servo s;
       measured = refl;
@@ -54,6 +50,6 @@ start-tells s =
     }
 
 -- the machine says a, and its past tells the book with one line more
-pub record Agrees (s : Settings) (b : Book) (p : Past) (call : Call) (t : Table) (g : Grants) (a : Answer) (e : Effect) : Type 0 where
+pub record Agrees (s : Settings) (b : Book) (p : Past) (call : Call) (t : Table) (a : Answer) (e : Effect) : Type 0 where
   pub says : effect_answer e ≡ a
-  pub tells : Tells s (book_with call a b) (past_by s p t g e)
+  pub tells : Tells s (book_with call a b) (past_by s p t e)

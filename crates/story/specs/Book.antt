@@ -15,7 +15,6 @@ use Rattle.rules_exchange.specs.Table.{Event, sync, requested, sent, follow_up, 
 use Rattle.rules_watch.specs.declared.settings.WatchSettings.{WatchSettings}
 use Rattle.rules_watch.specs.declared.window.Sample.{Sample}
 use Rattle.rules_watch.specs.Rules.{Since, Stamps, apart}
-use Rattle.rules_grants.specs.declared.notice.Notice.{Notice}
 use Rattle.rules_settings.specs.declared.Settings.{Settings}
 use Rattle.unit_core.specs.declared.calls.Call.{Call}
 use Rattle.unit_core.specs.declared.calls.Call.TheVariants as calls
@@ -27,7 +26,6 @@ use Rattle.unit_measuring.specs.Hearing.{two_step_in}
 use Rattle.story_lists.specs.Reading.{all, newest, since}
 use Rattle.story_exchange.specs.Log.{entry as exchange_entry, Entry as ExchangeEntry, Log as ExchangeLog}
 use Rattle.story_masters.specs.Announces.{Log as SeatLog}
-use Rattle.story_grants.specs.Signalings.{entry as grant_entry, Entry as GrantEntry, Log as GrantLog}
 use Rattle.story_masters.specs.History.{Happening, arrives, passes, log as seats_after}
 
 pub data Entry : Type 0 where
@@ -46,7 +44,6 @@ said_by (answers.Watch p) = none
 said_by answers.Wiped = none
 said_by (answers.Line l n) = none
 said_by (answers.Shows x) = none
-said_by answers.Signaled = none
 
 -- the choice that was made
 abbrev pub choice_by : Answer → Option Chosen
@@ -57,7 +54,6 @@ choice_by (answers.Watch p) = none
 choice_by answers.Wiped = none
 choice_by (answers.Line l n) = none
 choice_by (answers.Shows x) = none
-choice_by answers.Signaled = none
 
 abbrev pub a_wipe : Entry → Option Answer
 a_wipe (entry call a) = cond (wipes_of a) (some a) none
@@ -72,7 +68,7 @@ since_wipe b = since a_wipe b
 -- ---- what stays through a wipe
 -- the last accepted now: 0 for a fresh unit
 abbrev pub a_now : Entry → Option ℕ
-a_now (entry (calls.Receive now arrival m notice) a) = some now
+a_now (entry (calls.Receive now arrival m) a) = some now
 a_now (entry (calls.Request now room) a) = some now
 a_now (entry (calls.Sent now n t3) a) = some now
 a_now (entry (calls.Time now) a) = some now
@@ -115,7 +111,6 @@ reset_by (answers.Watch p) = none
 reset_by answers.Wiped = some answers.Wiped
 reset_by (answers.Line l n) = none
 reset_by (answers.Shows x) = none
-reset_by answers.Signaled = none
 
 abbrev pub a_reset : Entry → Option Answer
 a_reset (entry call a) = reset_by a
@@ -125,7 +120,7 @@ faulty b = is_some (newest a_fault (since a_reset b))
 
 -- the sequenceId of the next request: so many were written, and after 65,535 comes 0
 abbrev pub a_request_call : Entry → Option ℕ
-a_request_call (entry (calls.Receive now arrival m notice) a) = none
+a_request_call (entry (calls.Receive now arrival m) a) = none
 a_request_call (entry (calls.Request now room) a) = some now
 a_request_call (entry (calls.Sent now n t3) a) = none
 a_request_call (entry (calls.Time now) a) = none
@@ -148,10 +143,9 @@ happening_by now h (bodies.DelayReq t) = passes now
 happening_by now h (bodies.Sync t1) = passes now
 happening_by now h (bodies.FollowUp t1) = passes now
 happening_by now h (bodies.DelayResp t4 p) = passes now
-happening_by now h (bodies.Signaling target) = passes now
 
 abbrev pub a_happening : Entry → Option Happening
-a_happening (entry (calls.Receive now arrival m notice) a) = some (happening_by now m.header m.body)
+a_happening (entry (calls.Receive now arrival m) a) = some (happening_by now m.header m.body)
 a_happening (entry (calls.Request now room) a) = some (passes now)
 a_happening (entry (calls.Sent now n t3) a) = some (passes now)
 a_happening (entry (calls.Time now) a) = some (passes now)
@@ -162,28 +156,6 @@ a_happening (entry calls.Show a) = none
 
 abbrev pub seats : Settings → Book → SeatLog
 seats s b = seats_after s.domain s.own s.announce (all a_happening b)
-
--- ---- the grants: every Signaling, with its sender, its now and what its unicast TLVs come to. No wipe ends a grant (rule 13.10)
-abbrev pub signaling_by : ℕ → Notice → Header → Body → Option GrantEntry
-signaling_by now notice h (bodies.Announce stamp offer) = none
-signaling_by now notice h (bodies.DelayReq t) = none
-signaling_by now notice h (bodies.Sync t1) = none
-signaling_by now notice h (bodies.FollowUp t1) = none
-signaling_by now notice h (bodies.DelayResp t4 p) = none
-signaling_by now notice h (bodies.Signaling target) = some (grant_entry h.source now notice)
-
-abbrev pub a_signaling : Entry → Option GrantEntry
-a_signaling (entry (calls.Receive now arrival m notice) a) = signaling_by now notice m.header m.body
-a_signaling (entry (calls.Request now room) a) = none
-a_signaling (entry (calls.Sent now n t3) a) = none
-a_signaling (entry (calls.Time now) a) = none
-a_signaling (entry calls.Reset a) = none
-a_signaling (entry (calls.Tick r c) a) = none
-a_signaling (entry calls.Line a) = none
-a_signaling (entry calls.Show a) = none
-
-abbrev pub grants : Book → GrantLog
-grants b = all a_signaling b
 
 -- ---- the exchange: its events since the wipe, with what it said to each
 abbrev pub exchange_entry_of : Event → Option Said → Option ExchangeEntry
@@ -200,10 +172,9 @@ heard_by own t2 h (bodies.DelayReq t) a = none
 heard_by own t2 h (bodies.Sync t1) a = exchange_entry_of (sync (two_step_in h) h.sequence h.correction t1 t2) a
 heard_by own t2 h (bodies.FollowUp t1) a = exchange_entry_of (follow_up h.sequence h.correction t1) a
 heard_by own t2 h (bodies.DelayResp t4 p) a = exchange_entry_of (delay_resp h.sequence h.correction t4 p own) a
-heard_by own t2 h (bodies.Signaling target) a = none
 
 abbrev pub an_exchange_entry : Port → Entry → Option ExchangeEntry
-an_exchange_entry own (entry (calls.Receive now arrival m notice) a) = heard_by own arrival m.header m.body (said_by a)
+an_exchange_entry own (entry (calls.Receive now arrival m) a) = heard_by own arrival m.header m.body (said_by a)
 an_exchange_entry own (entry (calls.Request now room) a) = request_by a
 an_exchange_entry own (entry (calls.Sent now n t3) a) = exchange_entry_of (sent n t3) (said_by a)
 an_exchange_entry own (entry (calls.Time now) a) = none
@@ -236,7 +207,7 @@ last_measured b = newest a_measurement (since_wipe b)
 
 -- ---- the watch: the second pulses since the wipe
 abbrev pub a_pulse : Entry → Option Stamps
-a_pulse (entry (calls.Receive now arrival m notice) a) = none
+a_pulse (entry (calls.Receive now arrival m) a) = none
 a_pulse (entry (calls.Request now room) a) = none
 a_pulse (entry (calls.Sent now n t3) a) = none
 a_pulse (entry (calls.Time now) a) = none

@@ -8,7 +8,6 @@ use Rattle.numbers.specs.Grounds.{first_of}
 use Rattle.numbers.specs.Orders.{Due, of_exchange, of_time}
 use Rattle.numbers.specs.declared.stamp.Stamp.{Stamp}
 use Rattle.numbers.specs.declared.units.Ppb.{Ppb}
-use Rattle.wire_layout.specs.declared.message.Port.{Port}
 use Rattle.wire_layout.specs.declared.message.Header.{Header}
 use Rattle.wire_layout.specs.declared.message.Body.{Body}
 use Rattle.wire_layout.specs.declared.message.Body.TheVariants as bodies
@@ -29,8 +28,6 @@ use Rattle.rules_servo.specs.Steps.{limit_of}
 use Rattle.rules_watch.specs.declared.judging.Outcome.{Outcome}
 use Rattle.rules_watch.specs.declared.judging.Outcome.TheVariants.{Refuse, Wipe, Take}
 use Rattle.rules_watch.specs.Rules.{pulse_of, outcome, line_since}
-use Rattle.rules_grants.specs.declared.grant.Service.{Service}
-use Rattle.rules_grants.specs.declared.notice.Notice.{Notice}
 use Rattle.rules_settings.specs.declared.Settings.{Settings}
 use Rattle.unit_core.specs.declared.calls.Call.{Call}
 use Rattle.unit_core.specs.declared.calls.Call.TheVariants as calls
@@ -41,15 +38,13 @@ use Rattle.unit_measuring.specs.Barring.{field_in, message_due, own_due}
 use Rattle.unit_measuring.specs.Hearing.{two_step_in}
 use Rattle.unit_measuring.specs.Asking.{request_due}
 use Rattle.unit_core.specs.Showing.{port_of}
-use Rattle.unit_granting.specs.Granting.{ungranted_by, signaling_bars}
 use Rattle.unit_ticking.specs.Ticking.{line_by}
-use Rattle.story_grants.specs.Signalings.{runs_in, full_in}
 use Rattle.story_exchange.specs.Rules.{answer as exchange_answer}
 use Rattle.story_servo.specs.Offsets.{output, ten}
 use Rattle.story_masters.specs.Announces.{came, Log as SeatLog}
 use Rattle.story_masters.specs.Places.{answer as seat_answer, chosen_in}
 use Rattle.story_lists.specs.Reading.{with_it}
-use Rattle.story.specs.Book.{Book, wipe_count, last_now, chosen, faulty, sequence, stays_in, seats, grants, exchange_log, offsets, offset_by, last_measured, samples, then, is_some}
+use Rattle.story.specs.Book.{Book, wipe_count, last_now, chosen, faulty, sequence, stays_in, seats, exchange_log, offsets, offset_by, last_measured, samples, then, is_some}
 
 -- ---- the output after these offsets
 abbrev pub output_of : Settings → List ℤ → Ppb
@@ -76,8 +71,8 @@ module _ (s : Settings) (b : Book) where
   abbrev pub calling : Due → Event → Answer
   calling due e = unless_barred (first_of (of_exchange due)) (event_answer e)
 
-  abbrev pub from_master : ℕ → Header → (field ungranted : Bool) → Event → Answer
-  from_master now h field ungranted e = calling (message_due s (stays_in b) now h field ungranted) e
+  abbrev pub from_master : ℕ → Header → (field : Bool) → Event → Answer
+  from_master now h field e = calling (message_due s (stays_in b) now h field) e
 
   -- ---- the choice: a new or lost master wipes
   abbrev pub choice_answer : ℕ → SeatLog → Answer
@@ -88,26 +83,15 @@ module _ (s : Settings) (b : Book) where
   admission_answer now m (admission.Renewed p) = choice_answer now (came p now m ∷ seats s b)
   admission_answer now m (admission.Entered p) = choice_answer now (came p now m ∷ seats s b)
 
-  -- ---- the grants: whether the one that a message needs is missing, and what a Signaling is answered
-  abbrev pub ungranted : ℕ → Header → Body → Bool
-  ungranted now h body = ungranted_by s.unicast (λ (k : Service). runs_in (grants b) h.source k now) body
-
-  abbrev pub signaling_answer : ℕ → Notice → Header → Port → Answer
-  signaling_answer now notice h target = unless_barred (signaling_bars s (stays_in b) now h target notice (full_in (grants b) h.source now notice)) answers.Signaled
-
   -- ---- a message: a Delay_Req is KIND before all else
-  abbrev pub message_answer : ℕ → Stamp → Notice → Header → Body → Answer
-  message_answer now t2 notice h (bodies.Announce stamp offer) =
+  abbrev pub message_answer : ℕ → Stamp → Header → Body → Answer
+  message_answer now t2 h (bodies.Announce stamp offer) =
       admission_answer now (record { header = h; stamp = stamp; offer = offer })
-      (seat_answer s.domain s.own s.announce (seats s b) (record { header = h; stamp = stamp; offer = offer }) now (ungranted now h (bodies.Announce stamp offer)))
-  message_answer now t2 notice h (bodies.DelayReq t) = answers.Refused Kind
-  message_answer now t2 notice h (bodies.Sync t1) =
-      from_master now h (field_in t2 (bodies.Sync t1)) (ungranted now h (bodies.Sync t1)) (sync (two_step_in h) h.sequence h.correction t1 t2)
-  message_answer now t2 notice h (bodies.FollowUp t1) =
-      from_master now h (field_in t2 (bodies.FollowUp t1)) (ungranted now h (bodies.FollowUp t1)) (follow_up h.sequence h.correction t1)
-  message_answer now t2 notice h (bodies.DelayResp t4 p) =
-      from_master now h (field_in t2 (bodies.DelayResp t4 p)) (ungranted now h (bodies.DelayResp t4 p)) (delay_resp h.sequence h.correction t4 p s.own)
-  message_answer now t2 notice h (bodies.Signaling target) = signaling_answer now notice h target
+      (seat_answer s.domain s.own s.announce (seats s b) (record { header = h; stamp = stamp; offer = offer }) now)
+  message_answer now t2 h (bodies.DelayReq t) = answers.Refused Kind
+  message_answer now t2 h (bodies.Sync t1) = from_master now h (field_in t2 (bodies.Sync t1)) (sync (two_step_in h) h.sequence h.correction t1 t2)
+  message_answer now t2 h (bodies.FollowUp t1) = from_master now h (field_in t2 (bodies.FollowUp t1)) (follow_up h.sequence h.correction t1)
+  message_answer now t2 h (bodies.DelayResp t4 p) = from_master now h (field_in t2 (bodies.DelayResp t4 p)) (delay_resp h.sequence h.correction t4 p s.own)
 
   -- ---- the watch
   abbrev pub pulse_answer : Outcome → Answer
@@ -124,7 +108,7 @@ module _ (s : Settings) (b : Book) where
   shown = cond (overdue (last_measured b) (last_now b)) Holdover (cond (is_tracking (ten (offsets b))) Tracking Adjusting)
 
   unfoldable pub answer : Call → Answer
-  answer (calls.Receive now arrival m notice) = message_answer now arrival notice m.header m.body
+  answer (calls.Receive now arrival m) = message_answer now arrival m.header m.body
   answer (calls.Request now room) = calling (request_due (stays_in b) now room) (requested (sequence b))
   answer (calls.Sent now n t3) = calling (own_due (stays_in b) now (field_of t3)) (sent n t3)
   answer (calls.Time now) = unless_barred (first_of (of_time (time_due (last_now b) now))) (choice_answer now (seats s b))

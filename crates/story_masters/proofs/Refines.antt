@@ -159,15 +159,15 @@ module _ (interval : ℕ) (l : Log) (k : Memory) (h : Tells interval l k) where
 
 -- one Announce
 module _ (domain : ℕ) (own : Port) (a : ℕ) (l : Log) (k : Memory) (h : Tells (interval_of a) l k) where
-  pub step : (m : Announce) (now : ℕ) (ungranted : Bool) → Agrees (interval_of a) l k h m now (admission_of domain own a k m now ungranted) (answer domain own a l m now ungranted)
+  pub step : (m : Announce) (now : ℕ) → Agrees (interval_of a) l k h m now (admission_of domain own a k m now) (answer domain own a l m now)
   unfolding admitted_of answer
-  step m now ungranted =
-      rw (← h.last, ← repeat-same (interval_of a) l k h m now, ← full-same (interval_of a) l k h m now) (go (first_of (grounds_of k.table m domain own a k.last now ungranted)) refl)
+  step m now =
+      rw (← h.last, ← repeat-same (interval_of a) l k h m now, ← full-same (interval_of a) l k h m now) (go (first_of (grounds_of k.table m domain own a k.last now)) refl)
     where
-      go : (v : Ruling) → first_of (grounds_of k.table m domain own a k.last now ungranted) ≡ v
+      go : (v : Ruling) → first_of (grounds_of k.table m domain own a k.last now) ≡ v
           → Agrees (interval_of a) l k h m now (admitted_by v k.table (accepted_of k.table.records m (interval_of a) now)) (seat_by l m (interval_of a) now v)
       go Clear e =
-          let n = clear-announce _ _ _ _ _ _ (asked (interval_of a) l k h m now) e in
+          let n = clear-announce _ _ _ _ _ (asked (interval_of a) l k h m now) e in
           accepts (interval_of a) l k h m now (rw h.last at (ltb-false now k.last n.0)) n.2
       go (Barred r) e = record { says = refl; tells = h }
 
@@ -202,13 +202,13 @@ module _ (domain : ℕ) (own : Port) (a : ℕ) where
   pub tells : (happened : List Happening) → Tells (interval_of a) (log domain own a happened) (machine domain own a happened)
   unfolding log machine all
   tells [] = record { last = refl; five = refl; seats = unheld }
-  tells (arrives now m ∷ before) = (step domain own a (log domain own a before) (machine domain own a before) (tells before) m now false).tells
+  tells (arrives now m ∷ before) = (step domain own a (log domain own a before) (machine domain own a before) (tells before) m now).tells
   tells (passes now ∷ before) = step-now domain own a (log domain own a before) (machine domain own a before) (tells before) now
 
   -- the theorems
-  pub refines : (before : List Happening) (m : Announce) (now : ℕ) (ungranted : Bool)
-      → (admission_of domain own a (machine domain own a before) m now ungranted).answer ≡ answer domain own a (log domain own a before) m now ungranted
-  refines before m now ungranted = (step domain own a (log domain own a before) (machine domain own a before) (tells before) m now ungranted).says
+  pub refines : (before : List Happening) (m : Announce) (now : ℕ)
+      → (admission_of domain own a (machine domain own a before) m now).answer ≡ answer domain own a (log domain own a before) m now
+  refines before m now = (step domain own a (log domain own a before) (machine domain own a before) (tells before) m now).says
 
   pub chosen-told : (before : List Happening) (now : ℕ) → last_now (log domain own a before) ≤ now
       → chosen_at (machine domain own a before).table.records now a ≡ chosen_in a (log domain own a before) now

@@ -48,10 +48,10 @@ module _ (l : Log) (m : Announce) (interval now : ℕ) where
   seat_by Clear = cond (ltb home 5) (Renewed home) (Entered free)
   seat_by (Barred r) = Refused r
 
--- the first refusal that is due, if one is; else the place. `ungranted` says whether the grant that the Announce needs is missing
-unfoldable pub answer : ℕ → Port → ℕ → Log → Announce → ℕ → (ungranted : Bool) → Answer
-answer domain own a l m now ungranted =
-    seat_by l m (interval_of a) now (first_of (grounds_with m domain own (last_now l) now ungranted (held_due l m (interval_of a) now)))
+-- the first refusal that is due, if one is; else the place
+unfoldable pub answer : ℕ → Port → ℕ → Log → Announce → ℕ → Answer
+answer domain own a l m now =
+    seat_by l m (interval_of a) now (first_of (grounds_with m domain own (last_now l) now (held_due l m (interval_of a) now)))
 
 -- the sender of the Announce chosen is the master
 abbrev pub as_master : Option Announce → Chosen

@@ -11,7 +11,6 @@ use Rattle.numbers.specs.declared.ruling.Ruling.{Ruling}
 use Rattle.numbers.specs.declared.ruling.Ruling.TheVariants.{Clear, Barred}
 use Rattle.numbers.specs.Grounds.{first_of}
 use Rattle.numbers.specs.Orders.{of_exchange, of_time}
-use Rattle.wire_layout.specs.declared.message.Port.{Port}
 use Rattle.wire_layout.specs.declared.message.Header.{Header}
 use Rattle.wire_layout.specs.declared.message.Body.{Body}
 use Rattle.wire_layout.specs.declared.message.Body.TheVariants as bodies
@@ -31,9 +30,7 @@ use Rattle.rules_exchange.specs.Table.{Event, sync, follow_up, requested, sent, 
 use Rattle.rules_exchange.specs.Events.{field_of, exchange_due, tells_of}
 use Rattle.rules_servo.specs.Steps.{held_offset}
 use Rattle.rules_servo.proofs.Theorems.{output-kept}
-use Rattle.rules_grants.specs.declared.notice.Notice.{Notice}
 use Rattle.rules_settings.specs.declared.Settings.{Settings}
-use Rattle.unit_core.specs.declared.calls.Answer.TheVariants.{Signaled}
 use Rattle.unit_core.specs.Effects.{Stays, Progress, Effect, keeps, goes, takes, wipes, unless, with_now}
 use Rattle.unit_core.specs.Answers.{is_refusal, wipes_of}
 use Rattle.unit_choosing.specs.Choosing.{time_due, admission, holds_by, chooses, admits, announces, time_passes}
@@ -41,7 +38,6 @@ use Rattle.unit_measuring.specs.Measuring.{by_said, by_answer, exchanges}
 use Rattle.unit_measuring.specs.Barring.{field_in, message_due, own_due}
 use Rattle.unit_measuring.specs.Hearing.{two_step_in, hears_event, hears}
 use Rattle.unit_measuring.specs.Asking.{request_grounds, with_next_sequence, requests, sends}
-use Rattle.unit_granting.specs.Granting.{signaling_bars, signals}
 use Rattle.unit_ticking.proofs.Pulses.{by_test}
 
 -- the output in ppb, without its sign
@@ -89,24 +85,20 @@ module _ (s : Settings) (k : Stays) (r : Progress) (most : ℕ) (limit : up s.li
   fair-exchanged : (v : Ruling) (m : Stays) (a : Answered) → Fair most (unless v (exchanges s m r a))
   fair-exchanged v m a = fair-unless v (exchanges s m r a) (fair-answer m a.answer a.exchange)
 
-  fair-event : (now : ℕ) (h : Header) (field ungranted : Bool) (e : Event) → Fair most (hears_event s k r now h field ungranted e)
-  fair-event now h field ungranted e = fair-exchanged (first_of (of_exchange (exchange_due r.exchange e (message_due s k now h field ungranted)))) (with_now now k) (tells_of r.exchange e)
+  fair-event : (now : ℕ) (h : Header) (field : Bool) (e : Event) → Fair most (hears_event s k r now h field e)
+  fair-event now h field e = fair-exchanged (first_of (of_exchange (exchange_due r.exchange e (message_due s k now h field)))) (with_now now k) (tells_of r.exchange e)
 
-  pub fair-heard : (now : ℕ) (t2 : Stamp) (ungranted : Bool) (h : Header) (b : Body) → Fair most (hears s k r now t2 ungranted h b)
+  pub fair-heard : (now : ℕ) (t2 : Stamp) (h : Header) (b : Body) → Fair most (hears s k r now t2 h b)
   unfolding hears
-  fair-heard now t2 ungranted h (bodies.Sync t1) = fair-event now h (field_in t2 (bodies.Sync t1)) ungranted (sync (two_step_in h) h.sequence h.correction t1 t2)
-  fair-heard now t2 ungranted h (bodies.DelayReq t) = refl
-  fair-heard now t2 ungranted h (bodies.FollowUp t1) = fair-event now h (field_in t2 (bodies.FollowUp t1)) ungranted (follow_up h.sequence h.correction t1)
-  fair-heard now t2 ungranted h (bodies.DelayResp t4 p) = fair-event now h (field_in t2 (bodies.DelayResp t4 p)) ungranted (delay_resp h.sequence h.correction t4 p s.own)
-  fair-heard now t2 ungranted h (bodies.Announce t offer) = refl
-  fair-heard now t2 ungranted h (bodies.Signaling target) = refl
+  fair-heard now t2 h (bodies.Sync t1) = fair-event now h (field_in t2 (bodies.Sync t1)) (sync (two_step_in h) h.sequence h.correction t1 t2)
+  fair-heard now t2 h (bodies.DelayReq t) = refl
+  fair-heard now t2 h (bodies.FollowUp t1) = fair-event now h (field_in t2 (bodies.FollowUp t1)) (follow_up h.sequence h.correction t1)
+  fair-heard now t2 h (bodies.DelayResp t4 p) = fair-event now h (field_in t2 (bodies.DelayResp t4 p)) (delay_resp h.sequence h.correction t4 p s.own)
+  fair-heard now t2 h (bodies.Announce t offer) = refl
 
-  pub fair-announce : (t : Table) (now : ℕ) (m : Announce) (ungranted : Bool) → Fair most (announces s k r t now m ungranted)
+  pub fair-announce : (t : Table) (now : ℕ) (m : Announce) → Fair most (announces s k r t now m)
   unfolding announces
-  fair-announce t now m ungranted = fair-admits (admission s k t now m ungranted).table now (admission s k t now m ungranted).answer
-
-  pub fair-signal : (now : ℕ) (h : Header) (target : Port) (n : Notice) (full : Bool) → Fair most (signals s k r now h target n full)
-  fair-signal now h target n full = fair-unless (signaling_bars s k now h target n full) (goes Signaled (with_now now k) r) (refl, (refl, within))
+  fair-announce t now m = fair-admits (admission s k t now m).table now (admission s k t now m).answer
 
   pub fair-request : (now room : ℕ) → Fair most (requests s k r now room)
   unfolding requests

@@ -7,7 +7,6 @@ use Rattle.numbers.specs.declared.ruling.Ruling.{Ruling}
 use Rattle.numbers.specs.declared.ruling.Ruling.TheVariants.{Clear, Barred}
 use Rattle.numbers.specs.Grounds.{first_of}
 use Rattle.numbers.specs.Orders.{of_exchange, of_time}
-use Rattle.wire_layout.specs.declared.message.Port.{Port}
 use Rattle.wire_layout.specs.declared.message.Header.{Header}
 use Rattle.wire_layout.specs.declared.message.Body.{Body}
 use Rattle.wire_layout.specs.declared.message.Body.TheVariants as bodies
@@ -27,16 +26,13 @@ use Rattle.rules_exchange.specs.Table.{Event, sync, follow_up, requested, sent, 
 use Rattle.rules_exchange.specs.Events.{field_of, exchange_due, tells_of}
 use Rattle.rules_watch.specs.declared.judging.Outcome.{Outcome}
 use Rattle.rules_watch.specs.declared.judging.Outcome.TheVariants.{Refuse, Wipe, Take}
-use Rattle.rules_grants.specs.declared.notice.Notice.{Notice}
 use Rattle.rules_settings.specs.declared.Settings.{Settings}
-use Rattle.unit_core.specs.declared.calls.Answer.TheVariants.{Signaled}
 use Rattle.unit_core.specs.Effects.{Stays, Progress, Effect, keeps, goes, takes, wipes, unless, with_now}
 use Rattle.unit_choosing.specs.Choosing.{time_due, admission, holds_by, chooses, admits, announces, time_passes}
 use Rattle.unit_measuring.specs.Measuring.{by_said, by_answer, exchanges}
 use Rattle.unit_measuring.specs.Barring.{field_in, message_due, own_due}
 use Rattle.unit_measuring.specs.Hearing.{two_step_in, hears_event, hears}
 use Rattle.unit_measuring.specs.Asking.{request_grounds, with_next_sequence, requests, sends}
-use Rattle.unit_granting.specs.Granting.{signaling_bars, signals}
 use Rattle.unit_ticking.specs.Ticking.{ticks}
 use Rattle.unit_ticking.proofs.Pulses.{by_test}
 
@@ -57,16 +53,13 @@ module _ (s : Settings) (k : Stays) (r : Progress) (faulty : k.faulty ≡ true) 
   lasts-admits t now (answers.Renewed place) = lasts-chooses t now
   lasts-admits t now (answers.Entered place) = lasts-chooses t now
 
-  pub lasts-announce : (t : Table) (now : ℕ) (m : Announce) (ungranted : Bool) → Lasting (announces s k r t now m ungranted)
+  pub lasts-announce : (t : Table) (now : ℕ) (m : Announce) → Lasting (announces s k r t now m)
   unfolding announces
-  lasts-announce t now m ungranted = lasts-admits (admission s k t now m ungranted).table now (admission s k t now m ungranted).answer
+  lasts-announce t now m = lasts-admits (admission s k t now m).table now (admission s k t now m).answer
 
   lasts-unless : (v : Ruling) (e : Effect) → Lasting e → Lasting (unless v e)
   lasts-unless Clear e f = f
   lasts-unless (Barred n) e f = tt
-
-  pub lasts-signal : (now : ℕ) (h : Header) (target : Port) (n : Notice) (full : Bool) → Lasting (signals s k r now h target n full)
-  lasts-signal now h target n full = lasts-unless (signaling_bars s k now h target n full) (goes Signaled (with_now now k) r) faulty
 
   pub lasts-time : (t : Table) (now : ℕ) → Lasting (time_passes s k r t now)
   unfolding time_passes
@@ -83,17 +76,16 @@ module _ (s : Settings) (k : Stays) (r : Progress) (faulty : k.faulty ≡ true) 
   lasts-exchanged : (v : Ruling) (m : Stays) → m.faulty ≡ true → (a : Answered) → Lasting (unless v (exchanges s m r a))
   lasts-exchanged v m f a = lasts-unless v (exchanges s m r a) (lasts-answer m f a.answer a.exchange)
 
-  lasts-event : (now : ℕ) (h : Header) (field ungranted : Bool) (e : Event) → Lasting (hears_event s k r now h field ungranted e)
-  lasts-event now h field ungranted e = lasts-exchanged (first_of (of_exchange (exchange_due r.exchange e (message_due s k now h field ungranted)))) (with_now now k) faulty (tells_of r.exchange e)
+  lasts-event : (now : ℕ) (h : Header) (field : Bool) (e : Event) → Lasting (hears_event s k r now h field e)
+  lasts-event now h field e = lasts-exchanged (first_of (of_exchange (exchange_due r.exchange e (message_due s k now h field)))) (with_now now k) faulty (tells_of r.exchange e)
 
-  pub lasts-heard : (now : ℕ) (t2 : Stamp) (ungranted : Bool) (h : Header) (b : Body) → Lasting (hears s k r now t2 ungranted h b)
+  pub lasts-heard : (now : ℕ) (t2 : Stamp) (h : Header) (b : Body) → Lasting (hears s k r now t2 h b)
   unfolding hears
-  lasts-heard now t2 ungranted h (bodies.Sync t1) = lasts-event now h (field_in t2 (bodies.Sync t1)) ungranted (sync (two_step_in h) h.sequence h.correction t1 t2)
-  lasts-heard now t2 ungranted h (bodies.DelayReq t) = tt
-  lasts-heard now t2 ungranted h (bodies.FollowUp t1) = lasts-event now h (field_in t2 (bodies.FollowUp t1)) ungranted (follow_up h.sequence h.correction t1)
-  lasts-heard now t2 ungranted h (bodies.DelayResp t4 p) = lasts-event now h (field_in t2 (bodies.DelayResp t4 p)) ungranted (delay_resp h.sequence h.correction t4 p s.own)
-  lasts-heard now t2 ungranted h (bodies.Announce t offer) = tt
-  lasts-heard now t2 ungranted h (bodies.Signaling target) = tt
+  lasts-heard now t2 h (bodies.Sync t1) = lasts-event now h (field_in t2 (bodies.Sync t1)) (sync (two_step_in h) h.sequence h.correction t1 t2)
+  lasts-heard now t2 h (bodies.DelayReq t) = tt
+  lasts-heard now t2 h (bodies.FollowUp t1) = lasts-event now h (field_in t2 (bodies.FollowUp t1)) (follow_up h.sequence h.correction t1)
+  lasts-heard now t2 h (bodies.DelayResp t4 p) = lasts-event now h (field_in t2 (bodies.DelayResp t4 p)) (delay_resp h.sequence h.correction t4 p s.own)
+  lasts-heard now t2 h (bodies.Announce t offer) = tt
 
   pub lasts-request : (now room : ℕ) → Lasting (requests s k r now room)
   unfolding requests

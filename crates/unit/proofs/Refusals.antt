@@ -16,24 +16,20 @@ use Rattle.rules_masters.specs.Records.{interval_of}
 use Rattle.numbers.specs.Grounds.{first_of}
 use Rattle.rules_masters.specs.Holding.{chosen_at, decision_of, wipes_of}
 use Rattle.rules_masters.specs.Admitting.{grounds_of, is_known, standings_in, accepted_of, admitted_by, admitted_of}
-use Rattle.rules_grants.specs.declared.notice.Notice.{Notice}
-use Rattle.rules_grants.specs.declared.grants.Grants.{Grants}
-use Rattle.rules_grants.specs.Grants.{full_of, heeded_of}
 use Rattle.rules_watch.specs.Watch.{since_of}
 use Rattle.unit_core.specs.declared.calls.Call.{Call}
 use Rattle.unit_core.specs.declared.calls.Call.TheVariants.{Receive, Request, Sent, Time, Reset, Tick, Line, Show}
-use Rattle.unit_core.specs.declared.calls.Answer.TheVariants.{Watch as Watched, Signaled}
+use Rattle.unit_core.specs.declared.calls.Answer.TheVariants.{Watch as Watched}
 use Rattle.rules_watch.specs.Rules.{pulse_of}
-use Rattle.unit_core.specs.Effects.{Effect, keeps, goes, takes, wipes, unless, with_now, stays_of, progress_of, moved_by}
+use Rattle.unit_core.specs.Effects.{Effect, keeps, goes, takes, wipes, stays_of, progress_of, moved_by}
 use Rattle.unit_core.specs.Answers.{is_refusal}
 use Rattle.unit_choosing.specs.Choosing.{chooses, admits, announces}
-use Rattle.unit_granting.specs.Granting.{ungranted_of, signaling_bars, grants_unless}
 use Rattle.unit_ticking.specs.Ticking.{ticks}
 use Rattle.unit_ticking.proofs.Pulses.{by_test, every-outcome}
 use Rattle.unit.proofs.Fair.{Fair}
 use Rattle.unit.specs.declared.Unit.{Unit}
-use Rattle.unit.specs.Receiving.{receives, table_by, grants_by}
-use Rattle.unit.specs.Calls.{applied, unit_effect, unit_table, unit_grants}
+use Rattle.unit.specs.Receiving.{receives, table_by}
+use Rattle.unit.specs.Calls.{applied, unit_effect, unit_table}
 use Rattle.unit.proofs.Fairly.{most, fair}
 
 pub never : false ≡ true → ⊥
@@ -60,48 +56,21 @@ module _ (c : Unit) where
   by-verdict m interval now Clear h = absurd (not-accepted m interval now h)
   by-verdict m interval now (Barred n) h = refl
 
-  same-table : (now : ℕ) (arrival : Stamp) (n : Notice) (h : Header) (b : Body)
-      → Refused (receives c.core.settings (stays_of c.core) (progress_of c.core c.servo) c.table c.grants now arrival n h b)
-      → table_by c.core.settings (stays_of c.core) c.table c.grants now h b ≡ c.table
+  same-table : (now : ℕ) (arrival : Stamp) (h : Header) (b : Body)
+      → Refused (receives c.core.settings (stays_of c.core) (progress_of c.core c.servo) c.table now arrival h b)
+      → table_by c.core.settings (stays_of c.core) c.table now h b ≡ c.table
   unfolding announces admitted_of
-  same-table now arrival n h (bodies.Announce stamp offer) e =
+  same-table now arrival h (bodies.Announce stamp offer) e =
       let m : Announce = record { header = h; stamp = stamp; offer = offer } in
       let i = interval_of c.core.settings.announce in
-      by-verdict m i now (first_of (grounds_of c.table m c.core.settings.domain c.core.settings.own c.core.settings.announce c.core.now now (ungranted_of c.core.settings c.grants now h (bodies.Announce stamp offer)))) e
-  same-table now arrival n h (bodies.DelayReq stamp) e = refl
-  same-table now arrival n h (bodies.Sync t1) e = refl
-  same-table now arrival n h (bodies.FollowUp t1) e = refl
-  same-table now arrival n h (bodies.DelayResp t4 requester) e = refl
-  same-table now arrival n h (bodies.Signaling target) e = refl
-
-  -- ---- the grants: a Signaling that is refused does not change them
-  by-bars : (v : Ruling) (now : ℕ) (after : Grants) → Refused (unless v (goes Signaled (with_now now (stays_of c.core)) (progress_of c.core c.servo))) → grants_unless v after c.grants ≡ c.grants
-  by-bars Clear now after e = absurd (never e)
-  by-bars (Barred r) now after e = refl
-
-  same-grants : (now : ℕ) (arrival : Stamp) (n : Notice) (h : Header) (b : Body)
-      → Refused (receives c.core.settings (stays_of c.core) (progress_of c.core c.servo) c.table c.grants now arrival n h b)
-      → grants_by c.core.settings (stays_of c.core) c.grants now n h b ≡ c.grants
-  same-grants now arrival n h (bodies.Announce stamp offer) e = refl
-  same-grants now arrival n h (bodies.DelayReq stamp) e = refl
-  same-grants now arrival n h (bodies.Sync t1) e = refl
-  same-grants now arrival n h (bodies.FollowUp t1) e = refl
-  same-grants now arrival n h (bodies.DelayResp t4 requester) e = refl
-  same-grants now arrival n h (bodies.Signaling target) e =
-      by-bars (signaling_bars c.core.settings (stays_of c.core) now h target n (full_of c.grants h.source now n)) now (heeded_of c.grants h.source now n) e
-
-  refused-grants : (call : Call) → Refused (unit_effect c call) → unit_grants c call ≡ c.grants
-  refused-grants (Receive now arrival m n) e = same-grants now arrival n m.header m.body e
-  refused-grants (Request now room) e = refl
-  refused-grants (Sent now sequence t3) e = refl
-  refused-grants (Time now) e = refl
-  refused-grants Reset e = refl
-  refused-grants (Tick reference clock) e = refl
-  refused-grants Line e = refl
-  refused-grants Show e = refl
+      by-verdict m i now (first_of (grounds_of c.table m c.core.settings.domain c.core.settings.own c.core.settings.announce c.core.now now)) e
+  same-table now arrival h (bodies.DelayReq stamp) e = refl
+  same-table now arrival h (bodies.Sync t1) e = refl
+  same-table now arrival h (bodies.FollowUp t1) e = refl
+  same-table now arrival h (bodies.DelayResp t4 requester) e = refl
 
   refused-table : (call : Call) → Refused (unit_effect c call) → unit_table c call ≡ c.table
-  refused-table (Receive now arrival m n) e = same-table now arrival n m.header m.body e
+  refused-table (Receive now arrival m) e = same-table now arrival m.header m.body e
   refused-table (Request now room) e = refl
   refused-table (Sent now sequence t3) e = refl
   refused-table (Time now) e = refl
@@ -112,7 +81,7 @@ module _ (c : Unit) where
 
   -- ---- and all else
   abbrev Same : Effect → Type 0
-  Same e = Refused e → (applied c c.table c.grants e).unit ≡ c
+  Same e = Refused e → (applied c c.table e).unit ≡ c
 
   same-fair : (e : Effect) → Fair (most c) e → Same e
   same-fair (keeps a) f h = refl
@@ -128,7 +97,7 @@ module _ (c : Unit) where
   same_by call = same-fair (unit_effect c call)
 
   same_rest : (call : Call) → Same (unit_effect c call)
-  same_rest (Receive now arrival m n) = same_by (Receive now arrival m n) (fair c (Receive now arrival m n))
+  same_rest (Receive now arrival m) = same_by (Receive now arrival m) (fair c (Receive now arrival m))
   same_rest (Request now room) = same_by (Request now room) (fair c (Request now room))
   same_rest (Sent now sequence t3) = same_by (Sent now sequence t3) (fair c (Sent now sequence t3))
   same_rest (Time now) = same_by (Time now) (fair c (Time now))
@@ -140,5 +109,5 @@ module _ (c : Unit) where
   same_rest Line = same_by Line (fair c Line)
   same_rest Show = same_by Show (fair c Show)
 
-  pub refused-same : (call : Call) → Refused (unit_effect c call) → (applied c (unit_table c call) (unit_grants c call) (unit_effect c call)).unit ≡ c
-  refused-same call h = rw (refused-table call h, refused-grants call h) (same_rest call h)
+  pub refused-same : (call : Call) → Refused (unit_effect c call) → (applied c (unit_table c call) (unit_effect c call)).unit ≡ c
+  refused-same call h = rw (refused-table call h) (same_rest call h)

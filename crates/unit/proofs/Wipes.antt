@@ -34,7 +34,7 @@ module _ (c : Unit) where
   by_call call = by-fair (unit_effect c call)
 
   pub says-wiped : (call : Call) → wipes_of (step_of c call).answer ≡ is_wipe (unit_effect c call)
-  says-wiped (Receive now arrival m n) = by_call (Receive now arrival m n) (fair c (Receive now arrival m n))
+  says-wiped (Receive now arrival m) = by_call (Receive now arrival m) (fair c (Receive now arrival m))
   says-wiped (Request now room) = by_call (Request now room) (fair c (Request now room))
   says-wiped (Sent now sequence t3) = by_call (Sent now sequence t3) (fair c (Sent now sequence t3))
   says-wiped (Time now) = by_call (Time now) (fair c (Time now))

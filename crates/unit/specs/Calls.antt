@@ -10,9 +10,6 @@ use Rattle.rules_watch.specs.declared.Drift.{Drift}
 use Rattle.rules_watch.specs.declared.judging.Outcome.{Outcome}
 use Rattle.rules_watch.specs.Rules.{outcome}
 use Rattle.rules_watch.specs.Watch.{fresh_watch, since_of, watch_line}
-use Rattle.rules_grants.specs.declared.notice.Notice.{Notice}
-use Rattle.rules_grants.specs.declared.grants.Grants.{Grants}
-use Rattle.rules_grants.specs.Grants.{fresh_grants}
 use Rattle.rules_settings.specs.declared.Settings.{Settings}
 use Rattle.unit_core.specs.declared.Moved.{Moved}
 use Rattle.unit_core.specs.declared.calls.Call.{Call}
@@ -24,53 +21,43 @@ use Rattle.unit_choosing.specs.Choosing.{time_passes}
 use Rattle.unit_measuring.specs.Asking.{requests, sends}
 use Rattle.unit_ticking.specs.Ticking.{ticks, sampled_by, line_by}
 use Rattle.unit_core.specs.Showing.{shows_of}
-use Rattle.unit.specs.Receiving.{receives, table_by, grants_by}
+use Rattle.unit.specs.Receiving.{receives, table_by}
 use Rattle.unit.specs.declared.Unit.{Unit}
 use Rattle.unit.specs.declared.Stepped.{Stepped}
 
--- what a call does where k stays, r is the progress, t is the table, g are the grants and so many wipes were counted, `pulse` being what the samples since the wipe make of a
+-- what a call does where k stays, r is the progress, t is the table and so many wipes were counted, `pulse` being what the samples since the wipe make of a
 -- pulse, and `line` their line
-abbrev pub effect_of : Settings → Stays → Progress → Table → Grants → ℕ → (ℤ → ℤ → Outcome) → Drift → Call → Effect
-effect_of s k r t g count pulse line (Receive now arrival m n) = receives s k r t g now arrival n m.header m.body
-effect_of s k r t g count pulse line (Request now room) = requests s k r now room
-effect_of s k r t g count pulse line (Sent now sequence t3) = sends s k r now sequence t3
-effect_of s k r t g count pulse line (Time now) = time_passes s k r t now
-effect_of s k r t g count pulse line Reset = wipes Wiped (unlocked k)
-effect_of s k r t g count pulse line (Tick reference clock) = ticks k (pulse reference clock)
-effect_of s k r t g count pulse line Line = keeps (line_by line count)
-effect_of s k r t g count pulse line Show = keeps (Shows (shows_of k r count))
+abbrev pub effect_of : Settings → Stays → Progress → Table → ℕ → (ℤ → ℤ → Outcome) → Drift → Call → Effect
+effect_of s k r t count pulse line (Receive now arrival m) = receives s k r t now arrival m.header m.body
+effect_of s k r t count pulse line (Request now room) = requests s k r now room
+effect_of s k r t count pulse line (Sent now sequence t3) = sends s k r now sequence t3
+effect_of s k r t count pulse line (Time now) = time_passes s k r t now
+effect_of s k r t count pulse line Reset = wipes Wiped (unlocked k)
+effect_of s k r t count pulse line (Tick reference clock) = ticks k (pulse reference clock)
+effect_of s k r t count pulse line Line = keeps (line_by line count)
+effect_of s k r t count pulse line Show = keeps (Shows (shows_of k r count))
 
-abbrev pub table_after : Settings → Stays → Table → Grants → Call → Table
-table_after s k t g (Receive now arrival m n) = table_by s k t g now m.header m.body
-table_after s k t g (Request now room) = t
-table_after s k t g (Sent now sequence t3) = t
-table_after s k t g (Time now) = t
-table_after s k t g Reset = t
-table_after s k t g (Tick reference clock) = t
-table_after s k t g Line = t
-table_after s k t g Show = t
-
-abbrev pub grants_after : Settings → Stays → Grants → Call → Grants
-grants_after s k g (Receive now arrival m n) = grants_by s k g now n m.header m.body
-grants_after s k g (Request now room) = g
-grants_after s k g (Sent now sequence t3) = g
-grants_after s k g (Time now) = g
-grants_after s k g Reset = g
-grants_after s k g (Tick reference clock) = g
-grants_after s k g Line = g
-grants_after s k g Show = g
+abbrev pub table_after : Settings → Stays → Table → Call → Table
+table_after s k t (Receive now arrival m) = table_by s k t now m.header m.body
+table_after s k t (Request now room) = t
+table_after s k t (Sent now sequence t3) = t
+table_after s k t (Time now) = t
+table_after s k t Reset = t
+table_after s k t (Tick reference clock) = t
+table_after s k t Line = t
+table_after s k t Show = t
 
 -- ---- the unit
--- a fresh unit (rule 10.12): all that a wipe empties is fresh, and so are table, grants, master, now, wipe count and sequenceId
+-- a fresh unit (rule 10.12): all that a wipe empties is fresh, and so are table, master, now, wipe count and sequenceId
 abbrev pub fresh_unit : Settings → Unit
-fresh_unit s = record { core = fresh_core s; servo = restored_servo s; table = fresh_table; watch = fresh_watch; grants = fresh_grants }
+fresh_unit s = record { core = fresh_core s; servo = restored_servo s; table = fresh_table; watch = fresh_watch }
 
--- core and servo as a call left them, with this table, this watch and these grants
-abbrev pub stepped_with : Moved → Table → Watch → Grants → Stepped
-stepped_with m t w g = record { answer = m.answer; unit = record { core = m.core; servo = m.servo; table = t; watch = w; grants = g } }
+-- core and servo as a call left them, with this table and this watch
+abbrev pub stepped_with : Moved → Table → Watch → Stepped
+stepped_with m t w = record { answer = m.answer; unit = record { core = m.core; servo = m.servo; table = t; watch = w } }
 
 abbrev pub stepped_after : Unit → Moved → Stepped
-stepped_after c m = stepped_with m c.table (cond m.wipes fresh_watch c.watch) c.grants
+stepped_after c m = stepped_with m c.table (cond m.wipes fresh_watch c.watch)
 
 -- the watch after an effect: a wipe makes it fresh
 abbrev pub watch_by : WatchSettings → Watch → Effect → Watch
@@ -79,26 +66,22 @@ watch_by t w (goes a k r) = w
 watch_by t w (takes origin x) = sampled_by t w (takes origin x)
 watch_by t w (wipes a k) = fresh_watch
 
--- after an effect, with the table and the grants after it
-abbrev pub applied : Unit → Table → Grants → Effect → Stepped
-applied c t g e = stepped_with (moved_by c.core c.servo e) t (watch_by c.core.settings.watch c.watch e) g
+-- after an effect, with the table after it
+abbrev pub applied : Unit → Table → Effect → Stepped
+applied c t e = stepped_with (moved_by c.core c.servo e) t (watch_by c.core.settings.watch c.watch e)
 
-abbrev pub receive_of : Unit → ℕ → Stamp → Message → Notice → Stepped
-receive_of c now arrival m n =
-    applied c (table_by c.core.settings (stays_of c.core) c.table c.grants now m.header m.body)
-    (grants_by c.core.settings (stays_of c.core) c.grants now n m.header m.body)
-    (receives c.core.settings (stays_of c.core) (progress_of c.core c.servo) c.table c.grants now arrival n m.header m.body)
+abbrev pub receive_of : Unit → ℕ → Stamp → Message → Stepped
+receive_of c now arrival m =
+    applied c (table_by c.core.settings (stays_of c.core) c.table now m.header m.body)
+    (receives c.core.settings (stays_of c.core) (progress_of c.core c.servo) c.table now arrival m.header m.body)
 
 abbrev pub unit_effect : Unit → Call → Effect
 unit_effect c call =
-    effect_of c.core.settings (stays_of c.core) (progress_of c.core c.servo) c.table c.grants c.core.domain.wipes
+    effect_of c.core.settings (stays_of c.core) (progress_of c.core c.servo) c.table c.core.domain.wipes
     (outcome c.core.settings.watch (since_of c.watch)) (watch_line c.core.settings.watch c.watch) call
 
 abbrev pub unit_table : Unit → Call → Table
-unit_table c call = table_after c.core.settings (stays_of c.core) c.table c.grants call
-
-abbrev pub unit_grants : Unit → Call → Grants
-unit_grants c call = grants_after c.core.settings (stays_of c.core) c.grants call
+unit_table c call = table_after c.core.settings (stays_of c.core) c.table call
 
 abbrev pub step_of : Unit → Call → Stepped
-step_of c call = applied c (unit_table c call) (unit_grants c call) (unit_effect c call)
+step_of c call = applied c (unit_table c call) (unit_effect c call)

@@ -7,14 +7,12 @@ use Rattle.rules_masters.specs.Places.{fresh_table}
 use Rattle.rules_masters.specs.Holding.{fresh_chosen}
 use Rattle.rules_watch.specs.declared.window.Sample.{Sample}
 use Rattle.rules_watch.specs.Rules.{Since, fresh_since, pulse_of, outcome, window_of, line_since}
-use Rattle.rules_grants.specs.declared.grants.Grants.{Grants}
-use Rattle.rules_grants.specs.Grants.{fresh_grants}
 use Rattle.rules_settings.specs.declared.Settings.{Settings}
 use Rattle.unit_core.specs.declared.calls.Call.{Call}
 use Rattle.unit_core.specs.declared.calls.Answer.{Answer}
 use Rattle.unit_core.specs.declared.calls.Answer.TheVariants.{Watch as Watched}
 use Rattle.unit_core.specs.Effects.{Stays, Progress, fresh_progress, Effect, keeps, goes, takes, wipes}
-use Rattle.unit.specs.Calls.{effect_of, table_after, grants_after}
+use Rattle.unit.specs.Calls.{effect_of, table_after}
 
 -- what the calls so far say
 pub record Past : Type 0 where
@@ -22,8 +20,6 @@ pub record Past : Type 0 where
   pub stays : Stays
   -- the table of masters
   pub table : Table
-  -- the unicast grants
-  pub grants : Grants
   -- since the last wipe: the exchange, the servo, the last accepted measurement
   pub progress : Progress
   -- since the last wipe: all samples taken, the oldest first, with the origin that their y are counted from
@@ -37,7 +33,6 @@ fresh_past s =
     record {
       stays = record { now = 0; chosen = fresh_chosen; faulty = false; sequence = 0 };
       table = fresh_table;
-      grants = fresh_grants;
       progress = fresh_progress s;
       since = fresh_since;
       count = 0;
@@ -46,7 +41,7 @@ fresh_past s =
 -- what this call does, after such a past; the wipe count is shown as a remainder by 2^32
 abbrev pub effect_after : Settings → Past → Call → Effect
 effect_after s p call =
-    effect_of s p.stays p.progress p.table p.grants (p.count % 2 ^ 32) (outcome s.watch p.since) (line_since s.watch p.since) call
+    effect_of s p.stays p.progress p.table (p.count % 2 ^ 32) (outcome s.watch p.since) (line_since s.watch p.since) call
 
 -- this call wipes
 abbrev pub is_wipe : Effect → Bool
@@ -55,16 +50,16 @@ is_wipe (goes a k r) = false
 is_wipe (takes origin x) = false
 is_wipe (wipes a k) = true
 
--- the past with one call more, where t is the table and g are the grants after it
-abbrev pub past_by : Settings → Past → Table → Grants → Effect → Past
-past_by s p t g (keeps a) = record { stays = p.stays; table = t; grants = g; progress = p.progress; since = p.since; count = p.count }
-past_by s p t g (goes a k r) = record { stays = k; table = t; grants = g; progress = r; since = p.since; count = p.count }
-past_by s p t g (takes origin x) =
-    record { stays = p.stays; table = t; grants = g; progress = p.progress; since = record { origin = origin; samples = p.since.samples ++ (x ∷ []) }; count = p.count }
-past_by s p t g (wipes a k) = record { stays = k; table = t; grants = g; progress = fresh_progress s; since = fresh_since; count = suc p.count }
+-- the past with one call more, where t is the table after it
+abbrev pub past_by : Settings → Past → Table → Effect → Past
+past_by s p t (keeps a) = record { stays = p.stays; table = t; progress = p.progress; since = p.since; count = p.count }
+past_by s p t (goes a k r) = record { stays = k; table = t; progress = r; since = p.since; count = p.count }
+past_by s p t (takes origin x) =
+    record { stays = p.stays; table = t; progress = p.progress; since = record { origin = origin; samples = p.since.samples ++ (x ∷ []) }; count = p.count }
+past_by s p t (wipes a k) = record { stays = k; table = t; progress = fresh_progress s; since = fresh_since; count = suc p.count }
 
 abbrev pub past_after : Settings → Past → Call → Past
-past_after s p call = past_by s p (table_after s p.stays p.table p.grants call) (grants_after s p.stays p.grants call) (effect_after s p call)
+past_after s p call = past_by s p (table_after s p.stays p.table call) (effect_after s p call)
 
 -- the answer
 abbrev pub effect_answer : Effect → Answer

@@ -1,11 +1,9 @@
-// The unit whole: its core with its servo, its table of masters, its watch and its unicast grants. One step for each call.
+// The unit whole: its core with its servo, its table of masters and its watch. One step for each call.
 ghost use Rattle.std.specs.Prelude.{◌≡◌, length};
 ghost use Rattle.unit_measuring.specs.Frame.{frame_after};
 ghost use Rattle.unit.specs.Calls.{fresh_unit, stepped_after, receive_of, step_of};
 
 use numbers::stamp::Stamp;
-use rules_grants::grants::Grants;
-use rules_grants::notice::Notice;
 use rules_masters::record::Announce;
 use rules_masters::table::Table;
 use rules_servo::Servo;
@@ -15,7 +13,6 @@ use unit_choosing::{announce, time};
 use unit_core::calls::{Answer, Call};
 use unit_core::run::Fresh;
 use unit_core::{Core, Moved};
-use unit_granting::{signal, ungranted};
 use unit_measuring::asking::{request, sent};
 use unit_measuring::frame;
 use unit_measuring::hearing::heard;
@@ -29,7 +26,6 @@ pub struct Unit {
     pub servo: Servo,
     pub table: Table,
     pub watch: Watch,
-    pub grants: Grants,
 }
 
 #[derive(Drop)]
@@ -49,7 +45,6 @@ impl Unit {
             servo,
             table: Table::fresh(),
             watch: Watch::fresh(),
-            grants: Grants::fresh(),
         }
     }
 
@@ -75,14 +70,13 @@ impl Unit {
         Stepped { answer, unit: self }
     }
 
-    // A read message, and what its unicast TLVs say: an Announce is handed over with the table, a Signaling with the grants.
-    fn receive(mut self, now: u64, arrival: Stamp, m: Message, notice: Notice) -> Stepped
-        ensures { result ≡ receive_of self now arrival m notice }
+    // A read message: an Announce is handed over with the table.
+    fn receive(mut self, now: u64, arrival: Stamp, m: Message) -> Stepped
+        ensures { result ≡ receive_of self now arrival m }
     {
         let core = self.core;
         let header = m.header;
         let body = m.body;
-        let lacks = ungranted(core.settings.unicast, self.grants, now, header.source, body);
         match body {
             Body::Announce(stamp, offer) => {
                 let m = Announce {
@@ -90,18 +84,12 @@ impl Unit {
                     stamp,
                     offer,
                 };
-                let seated = announce(core, self.servo, self.table, now, m, lacks);
+                let seated = announce(core, self.servo, self.table, now, m);
                 let table = seated.table;
                 self.table = table;
                 self.after(seated.moved)
             }
-            Body::Signaling(target) => {
-                let heeded = signal(core, self.servo, self.grants, now, header, target, notice);
-                let grants = heeded.grants;
-                self.grants = grants;
-                self.after(heeded.moved)
-            }
-            _ => self.after(heard(core, self.servo, now, arrival, lacks, m)),
+            _ => self.after(heard(core, self.servo, now, arrival, m)),
         }
     }
 
@@ -122,7 +110,7 @@ impl Unit {
     {
         let core = self.core;
         match call {
-            Call::Receive(now, arrival, m, notice) => self.receive(now, arrival, m, notice),
+            Call::Receive(now, arrival, m) => self.receive(now, arrival, m),
             Call::Request(now, room) => self.after(request(core, self.servo, now, room)),
             Call::Sent(now, sequence, t3) => {
                 self.after(sent(core, self.servo, now, sequence, t3))

@@ -1,5 +1,5 @@
 -- What an Announce and the bare time call do.
-use Rattle.std.specs.Prelude.{ℕ, Bool, cond, ltb}
+use Rattle.std.specs.Prelude.{ℕ, cond, ltb}
 use Rattle.numbers.specs.declared.refusal.Refusal.TheVariants.{Now}
 use Rattle.numbers.specs.Grounds.{first_of}
 use Rattle.numbers.specs.Orders.{Due, none_due, due_with, of_time}
@@ -23,9 +23,9 @@ with_chosen k now c = record { now = now; chosen = c; faulty = k.faulty; sequenc
 abbrev pub time_due : (last now : ℕ) → Due
 time_due last now = due_with Now (ltb now last) none_due
 
--- the table's answer to an Announce, and the table after it, which a refusal leaves as it was; `ungranted` says whether the grant that it needs is missing
-abbrev pub admission : Settings → Stays → Table → ℕ → Announce → (ungranted : Bool) → Admitted
-admission s k t now m ungranted = admitted_of t m s.domain s.own s.announce k.now now ungranted
+-- the table's answer to an Announce, and the table after it, which a refusal leaves as it was
+abbrev pub admission : Settings → Stays → Table → ℕ → Announce → Admitted
+admission s k t now m = admitted_of t m s.domain s.own s.announce k.now now
 
 -- this master, or none, is chosen: by what the choice says of it, it wipes or not
 abbrev pub holds_by : Stays → Progress → ℕ → Chosen → Decision → Effect
@@ -50,5 +50,5 @@ module _ (s : Settings) (k : Stays) (r : Progress) (t : Table) (now : ℕ) where
   time_passes = unless (first_of (of_time (time_due k.now now))) chooses
 
 -- an Announce: the choice is made over the table after it
-unfoldable pub announces : Settings → Stays → Progress → Table → ℕ → Announce → Bool → Effect
-announces s k r t now m ungranted = admits s k r (admission s k t now m ungranted).table now (admission s k t now m ungranted).answer
+unfoldable pub announces : Settings → Stays → Progress → Table → ℕ → Announce → Effect
+announces s k r t now m = admits s k r (admission s k t now m).table now (admission s k t now m).answer

@@ -56,15 +56,8 @@ fn admitted(core: Core, servo: Servo, table: Table, now: u64, answer: admission:
 }
 
 // An Announce: its refusals are the table's, then the choice.
-pub fn announce(
-    core: Core,
-    servo: Servo,
-    table: Table,
-    now: u64,
-    m: Announce,
-    ungranted: bool,
-) -> Seated
-    ensures { result ≡ record { table = (admission core.settings (stays_of core) table now m ungranted).table; moved = moved_by core servo (announces core.settings (stays_of core) (progress_of core servo) table now m ungranted) } }
+pub fn announce(core: Core, servo: Servo, table: Table, now: u64, m: Announce) -> Seated
+    ensures { result ≡ record { table = (admission core.settings (stays_of core) table now m).table; moved = moved_by core servo (announces core.settings (stays_of core) (progress_of core servo) table now m) } }
 {
     let own = core.settings.own;
     let seen = admit(
@@ -75,7 +68,6 @@ pub fn announce(
         core.settings.announce,
         core.now,
         now,
-        ungranted,
     );
     let after = seen.table;
     let answer = seen.answer;

@@ -4,7 +4,7 @@ use Rattle.rules_masters.specs.Holding.{wipes_of as choice_wipes}
 use Rattle.rules_exchange.specs.Said.{wipes_of as said_wipes}
 use Rattle.rules_watch.specs.Rules.{wipes_of as pulse_wipes}
 use Rattle.unit_core.specs.declared.calls.Answer.{Answer}
-use Rattle.unit_core.specs.declared.calls.Answer.TheVariants.{Refused, Choice, Exchange, Watch, Wiped, Line, Shows, Signaled}
+use Rattle.unit_core.specs.declared.calls.Answer.TheVariants.{Refused, Choice, Exchange, Watch, Wiped, Line, Shows}
 
 abbrev pub is_refusal : Answer → Bool
 is_refusal (Refused n) = true
@@ -14,7 +14,6 @@ is_refusal (Watch p) = false
 is_refusal Wiped = false
 is_refusal (Line line count) = false
 is_refusal (Shows shown) = false
-is_refusal Signaled = false
 
 -- what wipes, and with which answer: a new or lost master; of the exchange BACK, the third PATH in a row and STEP; of the watch BACK, RANGE and JUMP;
 -- the operator's reset
@@ -26,4 +25,3 @@ wipes_of (Watch p) = pulse_wipes p
 wipes_of Wiped = true
 wipes_of (Line line count) = false
 wipes_of (Shows shown) = false
-wipes_of Signaled = false

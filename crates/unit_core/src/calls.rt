@@ -3,7 +3,6 @@ use numbers::refusal::Refusal;
 use numbers::stamp::Stamp;
 use numbers::units::Ppb;
 use rules_exchange::said::Said;
-use rules_grants::notice::Notice;
 use rules_masters::chosen::{Chosen, Decision};
 use rules_servo::shown::Shown;
 use rules_watch::Pulse;
@@ -12,7 +11,7 @@ use wire_layout::message::Message;
 
 #[derive(Drop)]
 pub enum Call {
-    Receive(u64, Stamp, Message, Notice), // now, the stamp of its arrival, a read message, what its unicast TLVs say
+    Receive(u64, Stamp, Message), // now, the stamp of its arrival, a read message
     Request(u64, usize), // now, the octets of the lent frame
     Sent(u64, u16, Stamp), // now, the request's sequenceId, t3
     Time(u64), // now
@@ -52,5 +51,4 @@ pub enum Answer {
     Wiped, // the operator's reset
     Line(Line, u32), // with the wipe count
     Shows(Shows),
-    Signaled, // of a Signaling
 }

@@ -35,7 +35,7 @@ refusal-keeps c call e = kept c (asked_of call) e
 
 -- .. and the lent frame
 frame-by : (c : Unit) (now : ℕ) (v : Ruling) (f : List ℕ)
-    → is_refusal (applied c c.table c.grants (unless v (exchanges c.core.settings (with_next_sequence now (stays_of c.core)) (progress_of c.core c.servo) (tells_of c.core.domain.run.exchange (requested c.core.domain.sequence))))).answer ≡ true
+    → is_refusal (applied c c.table (unless v (exchanges c.core.settings (with_next_sequence now (stays_of c.core)) (progress_of c.core c.servo) (tells_of c.core.domain.run.exchange (requested c.core.domain.sequence))))).answer ≡ true
     → frame_by v (request_of c.core.settings.domain c.core.settings.own c.core.domain.sequence) f ≡ f
 unfolding tells_of row_by stamp_taken by_said
 frame-by c now rulings.Clear f e = absurd (never e)

@@ -1,6 +1,6 @@
 -- Calls as they are handed over: a message by its octets, a request by its frame, a table by how many records it has. What is barred by that alone
 -- never reaches the unit, and is a call all the same.
-use Rattle.std.specs.Prelude.{ℕ, Bool, not, cond, List, [], ◌∷◌, eqb, ℤ, length}
+use Rattle.std.specs.Prelude.{ℕ, Bool, not, List, [], ◌∷◌, eqb, ℤ, length}
 use Rattle.numbers.specs.declared.stamp.Stamp.{Stamp}
 use Rattle.numbers.specs.declared.refusal.Refusal.TheVariants.{Settings}
 use Rattle.numbers.specs.declared.ruling.Ruling.{Ruling}
@@ -12,9 +12,7 @@ use Rattle.wire_layout.specs.declared.message.Message.{Message}
 use Rattle.wire_layout.specs.declared.message.Read.{Read}
 use Rattle.wire_layout.specs.declared.message.Read.TheVariants as reads
 use Rattle.wire_layout.specs.Kinds.{kind_of}
-use Rattle.wire_layout.specs.Reading.{suffix_in, read_of}
-use Rattle.rules_grants.specs.declared.notice.Notice.{Notice}
-use Rattle.rules_grants.specs.Notices.{no_notice, notice_of}
+use Rattle.wire_layout.specs.Reading.{read_of}
 use Rattle.unit_core.specs.declared.calls.Call.{Call}
 use Rattle.unit_core.specs.declared.calls.Call.TheVariants.{Receive, Request, Sent, Time, Reset, Tick, Line, Show}
 use Rattle.unit_core.specs.declared.calls.Answer.TheVariants.{Refused}
@@ -45,27 +43,23 @@ unless_barred (rulings.Barred r) call = Barred r
 abbrev pub is_delay_req : Body → Bool
 is_delay_req body = eqb (kind_of body) 1
 
--- what the TLVs behind its fixed part say: of a Signaling alone they are looked at
-abbrev pub notice_in : Body → (suffix : List ℕ) → Notice
-notice_in body suffix = cond (eqb (kind_of body) 12) (notice_of suffix) no_notice
-
 -- the lent table is not of five
 abbrev pub is_stray : ℕ → Bool
 is_stray lent = not (eqb lent 5)
 
-unfoldable pub message_asked : ℕ → Message → Notice → ℕ → Stamp → Asked
-message_asked lent m notice now arrival = unless_barred (first_of (of_handing (is_delay_req m.body) (is_stray lent))) (Receive now arrival m notice)
+unfoldable pub message_asked : ℕ → Message → ℕ → Stamp → Asked
+message_asked lent m now arrival = unless_barred (first_of (of_handing (is_delay_req m.body) (is_stray lent))) (Receive now arrival m)
 
 -- what cannot be read is barred by reading's own refusal
-abbrev pub read_asked : ℕ → (octets : List ℕ) → Read → ℕ → Stamp → Asked
-read_asked lent octets (reads.Got m part) now arrival = message_asked lent m (notice_in m.body (suffix_in octets)) now arrival
-read_asked lent octets (reads.Refused r) now arrival = Barred r
+abbrev pub read_asked : ℕ → Read → ℕ → Stamp → Asked
+read_asked lent (reads.Got m part) now arrival = message_asked lent m now arrival
+read_asked lent (reads.Refused r) now arrival = Barred r
 
 unfoldable pub time_asked : ℕ → ℕ → Asked
 time_asked lent now = unless_barred (first_of (of_time (due_with Settings (is_stray lent) none_due))) (Time now)
 
 unfoldable pub asked_of : Handed ℕ → Asked
-asked_of (receive lent octets now arrival) = read_asked lent octets (read_of octets) now arrival
+asked_of (receive lent octets now arrival) = read_asked lent (read_of octets) now arrival
 asked_of (request frame now) = Asks (Request now (length frame))
 asked_of (sent now sequence t3) = Asks (Sent now sequence t3)
 asked_of (time lent now) = time_asked lent now

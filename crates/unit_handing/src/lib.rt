@@ -1,12 +1,10 @@
 // Calls as they are handed over: what bars them before the unit is asked, and what it is asked.
 ghost use Rattle.std.specs.Prelude.{◌≡◌};
 ghost use Rattle.wire_layout.specs.Reading.{read_of};
-ghost use Rattle.unit_handing.specs.Handing.{is_delay_req, notice_in, message_asked, read_asked, time_asked, stepped_by};
+ghost use Rattle.unit_handing.specs.Handing.{is_delay_req, message_asked, read_asked, time_asked, stepped_by};
 
 use numbers::refusal::Refusal;
 use numbers::stamp::Stamp;
-use rules_grants::notice::Notice;
-use rules_grants::noticing::notice;
 use unit::{Stepped, Unit};
 use unit_core::calls::{Answer, Call};
 use wire_layout::kinds;
@@ -25,42 +23,26 @@ fn delay_req(body: Body) -> bool
     body.kind() == kinds::DelayReq::KIND
 }
 
-// What the TLVs of a message say. Those of a Signaling alone are gone through.
-fn noticed(body: Body, suffix: &[u8]) -> Notice
-    ensures { result ≡ notice_in body suffix.now }
-{
-    if body.kind() == kinds::Signaling::KIND {
-        return notice(suffix);
-    }
-    Notice::none()
-}
-
 // A read message comes with the table. KIND of a Delay_Req is asked before SETTINGS of a table that is not of five.
-fn message(lent: usize, m: Message, said: Notice, time: u64, arrival: Stamp) -> Asked
-    ensures { result ≡ message_asked lent m said time arrival }
+fn message(lent: usize, m: Message, time: u64, arrival: Stamp) -> Asked
+    ensures { result ≡ message_asked lent m time arrival }
 {
     let body = m.body;
     if delay_req(body) {
         return Asked::Barred(Refusal::Kind);
     }
     if lent == 5 {
-        return Asked::Asks(Call::Receive(time, arrival, m, said));
+        return Asked::Asks(Call::Receive(time, arrival, m));
     }
     Asked::Barred(Refusal::Settings)
 }
 
 // Octets that came, with a table of so many records: reading's own refusals come first.
 pub fn receive(lent: usize, octets: &[u8], time: u64, arrival: Stamp) -> Asked
-    ensures { result ≡ read_asked lent octets.now (read_of octets.now) time arrival }
+    ensures { result ≡ read_asked lent (read_of octets.now) time arrival }
 {
     match read(octets) {
-        Read::Got(m, part) => {
-            let body = m.body;
-            let from = part.from;
-            let to = part.to;
-            let said = noticed(body, &octets[from..to]);
-            message(lent, m, said, time, arrival)
-        }
+        Read::Got(m, _) => message(lent, m, time, arrival),
         Read::Refused(refusal) => Asked::Barred(refusal),
     }
 }

@@ -7,13 +7,13 @@ use lib.Dec.{ltb}
 use Rattle.numbers.specs.declared.stamp.Stamp.{Stamp}
 use Rattle.numbers.specs.declared.ruling.Ruling.{Ruling}
 use Rattle.numbers.specs.declared.ruling.Ruling.TheVariants.{Clear, Barred}
-use Rattle.numbers.specs.declared.refusal.Refusal.TheVariants.{Kind, Field, Now, Faulty, Domain, NotMaster, Grant, Correction, Unmatched, Room}
+use Rattle.numbers.specs.declared.refusal.Refusal.TheVariants.{Kind, Field, Now, Faulty, Domain, NotMaster, Correction, Unmatched, Room}
 use Rattle.numbers.specs.Grounds.{Ground, gives, first_of}
 use Rattle.numbers.specs.Orders.{Due, none_due, due_with, of_exchange}
 use Rattle.numbers.proofs.Grounds.{or_else, bars}
 use Rattle.wire_layout.specs.declared.message.Header.{Header}
 use Rattle.wire_layout.specs.declared.message.Body.{Body}
-use Rattle.wire_layout.specs.declared.message.Body.TheVariants.{Sync, DelayReq, FollowUp, DelayResp, Announce, Signaling}
+use Rattle.wire_layout.specs.declared.message.Body.TheVariants.{Sync, DelayReq, FollowUp, DelayResp, Announce}
 use Rattle.rules_exchange.specs.declared.Exchange.{Exchange}
 use Rattle.rules_exchange.specs.declared.Answered.{Answered}
 use Rattle.rules_exchange.specs.Table.{Event, sync, follow_up, delay_resp}
@@ -25,51 +25,39 @@ use Rattle.unit_measuring.specs.Hearing.{two_step_in, hears}
 use Rattle.unit_measuring.specs.Barring.{call_due, field_in, from_elsewhere, from_another, message_due, own_due}
 use Rattle.unit_measuring.specs.Inner.{message_grounds, handed}
 
--- the nine, each by its truth value
-abbrev nine : (f n a d m g c u r : Bool) → List Ground
-nine f n a d m g c u r =
+-- the eight, each by its truth value
+abbrev eight : (f n a d m c u r : Bool) → List Ground
+eight f n a d m c u r =
     of_exchange
-    (due_with Field f (due_with Now n (due_with Faulty a (due_with Domain d (due_with NotMaster m (due_with Grant g (due_with Correction c (due_with Unmatched u (due_with Room r none_due)))))))))
+    (due_with Field f (due_with Now n (due_with Faulty a (due_with Domain d (due_with NotMaster m (due_with Correction c (due_with Unmatched u (due_with Room r none_due))))))))
 
-pub two-parts : (f n a d m g c u r : Bool)
-    → first_of (nine f n a d m g c u r) ≡ or_else (first_of (nine f n a d m g false false false)) (first_of (nine false false false false false false c u r))
+pub two-parts : (f n a d m c u r : Bool) → first_of (eight f n a d m c u r) ≡ or_else (first_of (eight f n a d m false false false)) (first_of (eight false false false false false c u r))
 unfolding first_of
-two-parts true n a d m g c u r = refl
-two-parts false true a d m g c u r = refl
-two-parts false false true d m g c u r = refl
-two-parts false false false true m g c u r = refl
-two-parts false false false false true g c u r = refl
-two-parts false false false false false true c u r = refl
-two-parts false false false false false false c u r = refl
+two-parts true n a d m c u r = refl
+two-parts false true a d m c u r = refl
+two-parts false false true d m c u r = refl
+two-parts false false false true m c u r = refl
+two-parts false false false false true c u r = refl
+two-parts false false false false false c u r = refl
 
--- and the first part again in two: those of any call; and DOMAIN, NOT_MASTER and GRANT
-abbrev after_any : (d m g : Bool) → Ruling
-after_any d m g = cond d (Barred Domain) (cond m (Barred NotMaster) (cond g (Barred Grant) Clear))
-
-behind : (f n a d m g : Bool) → first_of (nine f n a d m g false false false) ≡ or_else (first_of (nine f n a false false false false false false)) (after_any d m g)
+-- and the first part again in two: those of any call, and DOMAIN and NOT_MASTER
+behind : (f n a d m : Bool) → first_of (eight f n a d m false false false) ≡ or_else (first_of (eight f n a false false false false false)) (cond d (Barred Domain) (cond m (Barred NotMaster) Clear))
 unfolding first_of
-behind true n a d m g = refl
-behind false true a d m g = refl
-behind false false true d m g = refl
-behind false false false d m g = refl
+behind true n a d m = refl
+behind false true a d m = refl
+behind false false true d m = refl
+behind false false false d m = refl
 
-pub master-bars : (s : Settings) (k : Stays) (now : ℕ) (h : Header) (field ungranted : Bool) (v : Ruling) → v ≡ first_of (of_exchange (call_due k now field))
-    → first_of (of_exchange (message_due s k now h field ungranted)) ≡ or_else v (cond (from_elsewhere s h) (Barred Domain) (cond (from_another k h) (Barred NotMaster) (cond ungranted (Barred Grant) Clear)))
-master-bars s k now h field ungranted v e =
-    behind field (ltb now k.now) k.faulty (from_elsewhere s h) (from_another k h) ungranted
-    ∙ ap (λ (w : Ruling). or_else w (after_any (from_elsewhere s h) (from_another k h) ungranted)) (sym e)
-
--- a now that is below the last one bars the message whether its grant is missing or not
-pub early-same : (s : Settings) (k : Stays) (now : ℕ) (h : Header) (field u v : Bool) → ltb now k.now ≡ true
-    → first_of (of_exchange (message_due s k now h field u)) ≡ first_of (of_exchange (message_due s k now h field v))
-unfolding first_of
-early-same s k now h true u v e = refl
-early-same s k now h false u v e = rw e
+pub master-bars : (s : Settings) (k : Stays) (now : ℕ) (h : Header) (field : Bool) (v : Ruling) → v ≡ first_of (of_exchange (call_due k now field))
+    → first_of (of_exchange (message_due s k now h field)) ≡ or_else v (cond (from_elsewhere s h) (Barred Domain) (cond (from_another k h) (Barred NotMaster) Clear))
+master-bars s k now h field v e =
+    behind field (ltb now k.now) k.faulty (from_elsewhere s h) (from_another k h)
+    ∙ ap (λ (w : Ruling). or_else w (cond (from_elsewhere s h) (Barred Domain) (cond (from_another k h) (Barred NotMaster) Clear))) (sym e)
 
 pub own-bars : (k : Stays) (now : ℕ) (field : Bool) (v : Ruling) → v ≡ first_of (of_exchange (call_due k now field))
     → first_of (of_exchange (own_due k now field)) ≡ or_else v (cond (not k.chosen.some) (Barred NotMaster) Clear)
 own-bars k now field v e =
-    behind field (ltb now k.now) k.faulty false (not k.chosen.some) false
+    behind field (ltb now k.now) k.faulty false (not k.chosen.some)
     ∙ ap (λ (w : Ruling). or_else w (cond (not k.chosen.some) (Barred NotMaster) Clear)) (sym e)
 
 module _ (s : Settings) (k : Stays) (r : Progress) (x : Exchange) (e : Event) where
@@ -83,16 +71,15 @@ module _ (s : Settings) (k : Stays) (r : Progress) (x : Exchange) (e : Event) wh
       → unless (first_of (of_exchange (exchange_due x e due))) (exchanges s k r (tells_of x e)) ≡ unless (first_of (of_exchange due)) (exchanges s k r (told x e))
   unfolding told
   unless-told due c u o =
-      rw (c, u, o, two-parts (due Field) (due Now) (due Faulty) (due Domain) (due NotMaster) (due Grant) (correction_in e) (unmatched_of x e) false)
-      (by_parts (first_of (nine (due Field) (due Now) (due Faulty) (due Domain) (due NotMaster) (due Grant) false false false)) (first_of (grounds_of x e)) (tells_of x e))
+      rw (c, u, o, two-parts (due Field) (due Now) (due Faulty) (due Domain) (due NotMaster) (correction_in e) (unmatched_of x e) false)
+      (by_parts (first_of (eight (due Field) (due Now) (due Faulty) (due Domain) (due NotMaster) false false false)) (first_of (grounds_of x e)) (tells_of x e))
 
 -- a message of any kind
-pub heard-by : (s : Settings) (k : Stays) (r : Progress) (now : ℕ) (t2 : Stamp) (ungranted : Bool) (h : Header) (b : Body)
-    → unless (first_of (message_grounds s k now t2 ungranted h b)) (exchanges s (with_now now k) r (handed r.exchange s.own t2 h b)) ≡ hears s k r now t2 ungranted h b
+pub heard-by : (s : Settings) (k : Stays) (r : Progress) (now : ℕ) (t2 : Stamp) (h : Header) (b : Body)
+    → unless (first_of (message_grounds s k now t2 h b)) (exchanges s (with_now now k) r (handed r.exchange s.own t2 h b)) ≡ hears s k r now t2 h b
 unfolding hears
-heard-by s k r now t2 ungranted h (Sync t1) = sym (unless-told s (with_now now k) r r.exchange (sync (two_step_in h) h.sequence h.correction t1 t2) (message_due s k now h (field_in t2 (Sync t1)) ungranted) refl refl refl)
-heard-by s k r now t2 ungranted h (DelayReq t) = ap (λ (v : Ruling). unless v (exchanges s (with_now now k) r (handed r.exchange s.own t2 h (DelayReq t)))) (bars (gives Kind true) [] refl)
-heard-by s k r now t2 ungranted h (FollowUp t1) = sym (unless-told s (with_now now k) r r.exchange (follow_up h.sequence h.correction t1) (message_due s k now h (field_in t2 (FollowUp t1)) ungranted) refl refl refl)
-heard-by s k r now t2 ungranted h (DelayResp t4 p) = sym (unless-told s (with_now now k) r r.exchange (delay_resp h.sequence h.correction t4 p s.own) (message_due s k now h (field_in t2 (DelayResp t4 p)) ungranted) refl refl refl)
-heard-by s k r now t2 ungranted h (Announce t o) = ap (λ (v : Ruling). unless v (exchanges s (with_now now k) r (handed r.exchange s.own t2 h (Announce t o)))) (bars (gives Kind true) [] refl)
-heard-by s k r now t2 ungranted h (Signaling p) = ap (λ (v : Ruling). unless v (exchanges s (with_now now k) r (handed r.exchange s.own t2 h (Signaling p)))) (bars (gives Kind true) [] refl)
+heard-by s k r now t2 h (Sync t1) = sym (unless-told s (with_now now k) r r.exchange (sync (two_step_in h) h.sequence h.correction t1 t2) (message_due s k now h (field_in t2 (Sync t1))) refl refl refl)
+heard-by s k r now t2 h (DelayReq t) = ap (λ (v : Ruling). unless v (exchanges s (with_now now k) r (handed r.exchange s.own t2 h (DelayReq t)))) (bars (gives Kind true) [] refl)
+heard-by s k r now t2 h (FollowUp t1) = sym (unless-told s (with_now now k) r r.exchange (follow_up h.sequence h.correction t1) (message_due s k now h (field_in t2 (FollowUp t1))) refl refl refl)
+heard-by s k r now t2 h (DelayResp t4 p) = sym (unless-told s (with_now now k) r r.exchange (delay_resp h.sequence h.correction t4 p s.own) (message_due s k now h (field_in t2 (DelayResp t4 p))) refl refl refl)
+heard-by s k r now t2 h (Announce t o) = ap (λ (v : Ruling). unless v (exchanges s (with_now now k) r (handed r.exchange s.own t2 h (Announce t o)))) (bars (gives Kind true) [] refl)

@@ -30,4 +30,4 @@ long-enough room h = rw (le-ltb room 14 (omega arith), le-ltb (room - 14) 44 (om
 -- what bars a request into a frame: the unit's refusals, and then ROOM
 pub room-bars : (k : Stays) (now : ℕ) (r : Bool) (v : Ruling) → v ≡ first_of (of_exchange (own_due k now false)) → first_of (of_exchange (due_with Room r (own_due k now false))) ≡ or_else v (cond r (Barred Room) Clear)
 unfolding first_of
-room-bars k now r v e = two-parts false (ltb now k.now) k.faulty false (not k.chosen.some) false false false r ∙ ap (λ (w : Ruling). or_else w (cond r (Barred Room) Clear)) (sym e)
+room-bars k now r v e = two-parts false (ltb now k.now) k.faulty false (not k.chosen.some) false false r ∙ ap (λ (w : Ruling). or_else w (cond r (Barred Room) Clear)) (sym e)

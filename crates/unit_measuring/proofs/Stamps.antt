@@ -11,7 +11,7 @@ use Rattle.numbers.specs.Grounds.{first_of, answer_by}
 use Rattle.numbers.specs.Stamps.{sound_of}
 use Rattle.numbers.proofs.Grounds.{clear-cons}
 use Rattle.wire_layout.specs.declared.message.Body.{Body}
-use Rattle.wire_layout.specs.declared.message.Body.TheVariants.{Sync, DelayReq, FollowUp, DelayResp, Announce, Signaling}
+use Rattle.wire_layout.specs.declared.message.Body.TheVariants.{Sync, DelayReq, FollowUp, DelayResp, Announce}
 use Rattle.wire_layout.specs.declared.message.Message.{Message}
 use Rattle.wire_layout.specs.declared.message.Part.{Part}
 use Rattle.wire_layout.specs.declared.message.Read.TheVariants.{Got, Refused}
@@ -44,7 +44,6 @@ field_beside t2 (DelayReq t) = false
 field_beside t2 (FollowUp t1) = false
 field_beside t2 (DelayResp t4 requester) = false
 field_beside t2 (Announce t offer) = false
-field_beside t2 (Signaling target) = false
 
 beside : (t2 : Stamp) (b : Body) → sound_of (stamp_in b) ≡ true → field_in t2 b ≡ field_beside t2 b
 beside t2 (Sync t1) h = rw h
@@ -52,7 +51,6 @@ beside t2 (DelayReq t) h = refl
 beside t2 (FollowUp t1) h = rw h
 beside t2 (DelayResp t4 requester) h = rw h
 beside t2 (Announce t offer) h = refl
-beside t2 (Signaling target) h = refl
 
 -- whoever hands over octets is never refused for the stamp that they hold
 pub read-field : (s : List ℕ) (m : Message) (p : Part) → read_of s ≡ Got m p → (t2 : Stamp) → field_in t2 m.body ≡ field_beside t2 m.body

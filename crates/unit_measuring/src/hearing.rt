@@ -1,5 +1,5 @@
-// A received message of the exchange: what bars it, and what the exchange is told.
-ghost use Rattle.std.specs.Prelude.{◌≡◌, ◌||◌, cond};
+// A received message other than an Announce: what bars it, and what the exchange is told.
+ghost use Rattle.std.specs.Prelude.{◌≡◌, ◌||◌};
 ghost use Rattle.numbers.specs.Grounds.{first_of};
 ghost use Rattle.unit_core.specs.Effects.{stays_of, progress_of, moved_by};
 ghost use Rattle.numbers.specs.Orders.{of_exchange};
@@ -45,19 +45,9 @@ fn hand(held: Exchange, own: Port, t2: Stamp, m: Message) -> Answered
     }
 }
 
-// 26: the grant that the message needs is missing.
-fn grant(ungranted: bool) -> Ruling
-    ensures { result ≡ cond ungranted (Ruling.Barred Refusal.Grant) Ruling.Clear }
-{
-    if ungranted {
-        return Ruling::Barred(Refusal::Grant);
-    }
-    Ruling::Clear
-}
-
-// 10, 16 and 26 of a message, behind those of any call.
-fn from_master(core: Core, now: u64, field: bool, ungranted: bool, header: Header) -> Ruling
-    ensures { result ≡ first_of (of_exchange (message_due core.settings (stays_of core) now header field ungranted)) }
+// 10 and 16 of a message, behind those of any call.
+fn from_master(core: Core, now: u64, field: bool, header: Header) -> Ruling
+    ensures { result ≡ first_of (of_exchange (message_due core.settings (stays_of core) now header field)) }
 {
     match barred(core, now, field) {
         Ruling::Barred(number) => Ruling::Barred(number),
@@ -67,7 +57,7 @@ fn from_master(core: Core, now: u64, field: bool, ungranted: bool, header: Heade
             }
             let chosen = core.domain.chosen;
             if chosen.is_master(header.source) {
-                return grant(ungranted);
+                return Ruling::Clear;
             }
             Ruling::Barred(Refusal::NotMaster)
         }
@@ -87,31 +77,24 @@ fn either_field(t1: Stamp, t2: Stamp) -> bool
 
 // 3 of a kind that is not heard, before all else; then those that come before the exchange's own. FIELD is asked of the message's own stamp too: whoever
 // hands over a struct has not had it read.
-pub fn message_barred(
-    core: Core,
-    now: u64,
-    t2: Stamp,
-    ungranted: bool,
-    header: Header,
-    body: Body,
-) -> Ruling
-    ensures { result ≡ first_of (message_grounds core.settings (stays_of core) now t2 ungranted header body) }
+pub fn message_barred(core: Core, now: u64, t2: Stamp, header: Header, body: Body) -> Ruling
+    ensures { result ≡ first_of (message_grounds core.settings (stays_of core) now t2 header body) }
 {
     match body {
-        Body::Sync(t1) => from_master(core, now, either_field(t1, t2), ungranted, header),
-        Body::FollowUp(t1) => from_master(core, now, refusals::field(t1), ungranted, header),
-        Body::DelayResp(t4, _) => from_master(core, now, refusals::field(t4), ungranted, header),
+        Body::Sync(t1) => from_master(core, now, either_field(t1, t2), header),
+        Body::FollowUp(t1) => from_master(core, now, refusals::field(t1), header),
+        Body::DelayResp(t4, _) => from_master(core, now, refusals::field(t4), header),
         _ => Ruling::Barred(Refusal::Kind),
     }
 }
 
-// A read message, its arrival stamped t2. A Delay_Req is no message for a slave; an Announce is handed over with the table, a Signaling with the grants.
-pub fn heard(core: Core, servo: Servo, now: u64, t2: Stamp, ungranted: bool, m: Message) -> Moved
-    ensures { result ≡ moved_by core servo (hears core.settings (stays_of core) (progress_of core servo) now t2 ungranted m.header m.body) }
+// A read message, its arrival stamped t2. A Delay_Req is no message for a slave, and an Announce is handed over with the table.
+pub fn heard(core: Core, servo: Servo, now: u64, t2: Stamp, m: Message) -> Moved
+    ensures { result ≡ moved_by core servo (hears core.settings (stays_of core) (progress_of core servo) now t2 m.header m.body) }
 {
     let header = m.header;
     let body = m.body;
-    match message_barred(core, now, t2, ungranted, header, body) {
+    match message_barred(core, now, t2, header, body) {
         Ruling::Barred(number) => core.refuse(servo, number),
         Ruling::Clear => {
             let held = core.domain.run.exchange;

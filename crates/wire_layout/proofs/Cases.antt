@@ -17,7 +17,7 @@ use Rattle.wire_layout.specs.Positions.{kind_in, version_in, length_in, body_of,
 use Rattle.wire_layout.specs.Suffix.{whole_of}
 use Rattle.wire_layout.specs.Reading.{read_of, suffix_at, suffix_in}
 
--- the timestamp that is read, the zero one of a Signaling
+-- the timestamp that is read
 abbrev pub stamp_of : List ℕ → Stamp
 stamp_of s = stamp_in (body_of (kind_in s) s)
 

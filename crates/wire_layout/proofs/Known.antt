@@ -14,7 +14,6 @@ pub data Known : ℕ → Type 0 where
   k-follow-up : Known 8
   k-delay-resp : Known 9
   k-announce : Known 11
-  k-signaling : Known 12
 
 -- by what a test tells
 pub choose : {P : Type 0} (b : Bool) → (b ≡ true → P) → (b ≡ false → P) → P
@@ -31,8 +30,7 @@ known k h =
     choose (eqb k 1) (at-kind k 1 k-delay-req) (λ e1.
     choose (eqb k 8) (at-kind k 8 k-follow-up) (λ e8.
     choose (eqb k 9) (at-kind k 9 k-delay-resp) (λ e9.
-    choose (eqb k 11) (at-kind k 11 k-announce) (λ e11.
-    choose (eqb k 12) (at-kind k 12 k-signaling) (λ e12. absurd (h (simp (e0, e1, e8, e9, e11, e12)))))))))
+    choose (eqb k 11) (at-kind k 11 k-announce) (λ e11. absurd (h (simp (e0, e1, e8, e9, e11))))))))
 
 pub known-fixed : {k : ℕ} → 0 < fixed_length_of k → Known k
 known-fixed {k} h = known k (λ z. omega (arith, h, z))
@@ -44,13 +42,11 @@ room-44 k-delay-req = lit≤ tt
 room-44 k-follow-up = lit≤ tt
 room-44 k-delay-resp = lit≤ tt
 room-44 k-announce = lit≤ tt
-room-44 k-signaling = lit≤ tt
 
--- the Announce, where it is none of the others
-pub last-kind : {k : ℕ} → Known k → (k ≡ 0 → ⊥) → (k ≡ 1 → ⊥) → (k ≡ 8 → ⊥) → (k ≡ 9 → ⊥) → (k ≡ 12 → ⊥) → k ≡ 11
-last-kind k-sync a b c d e = absurd (a refl)
-last-kind k-delay-req a b c d e = absurd (b refl)
-last-kind k-follow-up a b c d e = absurd (c refl)
-last-kind k-delay-resp a b c d e = absurd (d refl)
-last-kind k-announce a b c d e = refl
-last-kind k-signaling a b c d e = absurd (e refl)
+-- the last kind of the table, where it is none of the others
+pub last-kind : {k : ℕ} → Known k → (k ≡ 0 → ⊥) → (k ≡ 1 → ⊥) → (k ≡ 8 → ⊥) → (k ≡ 9 → ⊥) → k ≡ 11
+last-kind k-sync a b c d = absurd (a refl)
+last-kind k-delay-req a b c d = absurd (b refl)
+last-kind k-follow-up a b c d = absurd (c refl)
+last-kind k-delay-resp a b c d = absurd (d refl)
+last-kind k-announce a b c d = refl

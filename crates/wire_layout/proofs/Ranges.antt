@@ -13,7 +13,7 @@ use Rattle.wire_layout.specs.declared.message.Port.{Port}
 use Rattle.wire_layout.specs.declared.message.Header.{Header}
 use Rattle.wire_layout.specs.declared.message.Offer.{Offer}
 use Rattle.wire_layout.specs.declared.message.Body.{Body}
-use Rattle.wire_layout.specs.declared.message.Body.TheVariants.{Sync, DelayReq, FollowUp, DelayResp, Announce, Signaling}
+use Rattle.wire_layout.specs.declared.message.Body.TheVariants.{Sync, DelayReq, FollowUp, DelayResp, Announce}
 use Rattle.wire_layout.specs.declared.message.Message.{Message}
 use Rattle.wire_layout.specs.contracts.message.Port as port
 use Rattle.wire_layout.proofs.message.Port.TheLaws as port-laws
@@ -50,7 +50,6 @@ BodyIn (DelayReq t) = Unit
 BodyIn (FollowUp t) = Unit
 BodyIn (DelayResp t p) = PortIn p
 BodyIn (Announce t o) = OfferIn o
-BodyIn (Signaling p) = PortIn p
 
 pub record MessageIn (m : Message) : Type 0 where
   pub header : HeaderIn m.header
@@ -87,7 +86,6 @@ body-in (DelayReq t) vs i = tt
 body-in (FollowUp t) vs i = tt
 body-in (DelayResp t p) vs i = port-in p _ (enum-owed body.the_type body-laws.the_laws (DelayResp t p) vs i).1.0
 body-in (Announce t o) vs i = offer-in o _ (enum-owed body.the_type body-laws.the_laws (Announce t o) vs i).1.0
-body-in (Signaling p) vs i = port-in p _ (enum-owed body.the_type body-laws.the_laws (Signaling p) vs i).0
 
 pub message-in : (m : Message) (vs : List Val) → Is (row message.the_type) m vs → MessageIn m
 message-in m vs i =

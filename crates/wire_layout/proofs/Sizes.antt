@@ -11,7 +11,7 @@ use Rattle.wire_layout.specs.declared.message.Header.{Header}
 use Rattle.numbers.specs.declared.stamp.Stamp.{Stamp}
 use Rattle.wire_layout.specs.declared.message.Offer.{Offer}
 use Rattle.wire_layout.specs.declared.message.Body.{Body}
-use Rattle.wire_layout.specs.declared.message.Body.TheVariants.{Sync, DelayReq, FollowUp, DelayResp, Announce, Signaling}
+use Rattle.wire_layout.specs.declared.message.Body.TheVariants.{Sync, DelayReq, FollowUp, DelayResp, Announce}
 use Rattle.wire_layout.specs.Kinds.{kind_of, body_size, fixed_length_of}
 use Rattle.wire_layout.specs.Writing.{front_bits, back_bits, front_octets, back_octets, header_octets, stamp_octets, port_octets, offer_bits, offer_octets, body_octets}
 
@@ -45,7 +45,6 @@ body-length (DelayReq t) = omega (arith, stamp-length t)
 body-length (FollowUp t) = omega (arith, stamp-length t)
 body-length (DelayResp t p) = rw length-append (omega (arith, stamp-length t, port-length p))
 body-length (Announce t o) = rw length-append (omega (arith, stamp-length t, offer-length o))
-body-length (Signaling p) = omega (arith, port-length p)
 
 pub size-44 : (b : Body) → 44 ≤ body_size b
 size-44 (Sync t) = lit≤ tt
@@ -53,7 +52,6 @@ size-44 (DelayReq t) = lit≤ tt
 size-44 (FollowUp t) = lit≤ tt
 size-44 (DelayResp t p) = lit≤ tt
 size-44 (Announce t o) = lit≤ tt
-size-44 (Signaling p) = lit≤ tt
 
 pub size_64 : (b : Body) → body_size b ≤ 64
 size_64 (Sync t) = lit≤ tt
@@ -61,7 +59,6 @@ size_64 (DelayReq t) = lit≤ tt
 size_64 (FollowUp t) = lit≤ tt
 size_64 (DelayResp t p) = lit≤ tt
 size_64 (Announce t o) = lit≤ tt
-size_64 (Signaling p) = lit≤ tt
 
 pub kind-16 : (b : Body) → kind_of b < 16
 kind-16 (Sync t) = lit< tt
@@ -69,7 +66,6 @@ kind-16 (DelayReq t) = lit< tt
 kind-16 (FollowUp t) = lit< tt
 kind-16 (DelayResp t p) = lit< tt
 kind-16 (Announce t o) = lit< tt
-kind-16 (Signaling p) = lit< tt
 
 pub size-fixed : (b : Body) → fixed_length_of (kind_of b) ≡ body_size b
 unfolding fixed_length_of
@@ -78,4 +74,3 @@ size-fixed (DelayReq t) = refl
 size-fixed (FollowUp t) = refl
 size-fixed (DelayResp t p) = refl
 size-fixed (Announce t o) = refl
-size-fixed (Signaling p) = refl

@@ -20,7 +20,7 @@ use Rattle.wire_layout.specs.declared.message.Header.{Header}
 use Rattle.numbers.specs.declared.stamp.Stamp.{Stamp}
 use Rattle.wire_layout.specs.declared.message.Offer.{Offer}
 use Rattle.wire_layout.specs.declared.message.Body.{Body}
-use Rattle.wire_layout.specs.declared.message.Body.TheVariants.{Sync, DelayReq, FollowUp, DelayResp, Announce, Signaling}
+use Rattle.wire_layout.specs.declared.message.Body.TheVariants.{Sync, DelayReq, FollowUp, DelayResp, Announce}
 use Rattle.wire_layout.specs.declared.message.Message.{Message}
 use Rattle.numbers.specs.declared.refusal.Refusal.{Refusal}
 use Rattle.numbers.specs.declared.refusal.Refusal.TheVariants.{Room}
@@ -32,7 +32,7 @@ use Rattle.wire_layout.specs.Positions.{kind_in, version_in, length_in, port_at,
 use Rattle.wire_layout.specs.Suffix.{whole_of}
 use Rattle.wire_layout.specs.Reading.{suffix_at, suffix_in, read_of}
 use Rattle.wire_layout.specs.Writing.{front_bits, back_bits, header_octets, stamp_octets, port_octets, offer_bits, offer_octets, body_octets, octets_of, fields_fit, write_of}
-use Rattle.wire_layout.proofs.Known.{Known, k-sync, k-delay-req, k-follow-up, k-delay-resp, k-announce, k-signaling, choose, known}
+use Rattle.wire_layout.proofs.Known.{Known, k-sync, k-delay-req, k-follow-up, k-delay-resp, k-announce, choose, known}
 use Rattle.wire_layout.proofs.Sizes.{header-length, body-length, size-44, size_64, kind-16, size-fixed}
 use Rattle.wire_layout.proofs.Cases.{Head, Sized, stamp_of, r-short, r-version, r-kind, r-length, r-cut, r_field, r-whole}
 use Rattle.wire_layout.proofs.Ranges.{PortIn, HeaderIn, OfferIn, BodyIn, MessageIn}
@@ -63,10 +63,6 @@ module _ (h : Header) (k n : ℕ) (u : List ℕ) where
   stamp-back : (t : Stamp) → t.seconds < 2 ^ 48 → t.nanoseconds < 2 ^ 32 → stamp_at 34 (header_octets h k n ++ stamp_octets t ++ u) ≡ t
   unfolding stamp_at front_bits back_bits port_octets stamp_octets num big_endian
   stamp-back t a b = λ j. record { seconds = num-digits 6 t.seconds [] a j; nanoseconds = num-digits 4 t.nanoseconds [] b j }
-
-  target-back : (p : Port) → PortIn p → port_at 34 (header_octets h k n ++ port_octets p ++ u) ≡ p
-  unfolding port_at front_bits back_bits port_octets num big_endian
-  target-back p i = λ j. record { clock = num-digits 8 p.clock [] i.clock j; number = num-digits 2 p.number [] i.number j }
 
   module _ (t : Stamp) where
     port-back : (p : Port) → PortIn p → port_at 44 (header_octets h k n ++ (stamp_octets t ++ port_octets p) ++ u) ≡ p
@@ -102,7 +98,6 @@ module _ (h : Header) (k n : ℕ) (u : List ℕ) where
   body_back (FollowUp t) i a c = ap FollowUp (stamp-back t a c)
   body_back (DelayResp t p) i a c = ap₂ DelayResp (stamp-back' t (port_octets p) a c) (port-back t p i)
   body_back (Announce t o) i a c = ap₂ Announce (stamp-back' t (offer_octets o) a c) (offer-back t o i)
-  body_back (Signaling p) i a c = ap Signaling (target-back p i)
 
 -- FIRST ROUND TRIP: what was written is read as the message that it was
 module _ (m : Message) (n : ℕ) (u : List ℕ) (f : Fit m.header (stamp_in m.body)) (l : n < 2 ^ 16) where
@@ -206,10 +201,6 @@ module _ (s : List ℕ) (o : Octets s) (v : version_in s ≡ 2) where
   unfolding stamp_octets stamp_at part
   stamp-again = λ j. digits-num 6 34 s o j ++ digits-num 4 40 s o j
 
-  target-again : port_octets (port_at 34 s) ≡ part 10 34 s
-  unfolding port_octets port_at part
-  target-again = λ j. digits-num 8 34 s o j ++ digits-num 2 42 s o j
-
   port-again : port_octets (port_at 44 s) ≡ part 10 44 s
   unfolding port_octets port_at part
   port-again = λ j. digits-num 8 44 s o j ++ digits-num 2 52 s o j
@@ -229,7 +220,6 @@ module _ (s : List ℕ) (o : Octets s) (v : version_in s ≡ 2) where
   fixed-again k-follow-up = ap (λ (l : List ℕ). part 34 0 s ++ l) stamp-again
   fixed-again k-delay-resp = λ j. part 34 0 s ++ (stamp-again j ++ port-again j)
   fixed-again k-announce = λ j. part 34 0 s ++ (stamp-again j ++ offer-again j)
-  fixed-again k-signaling = ap (λ (l : List ℕ). part 34 0 s ++ l) target-again
 
 kind-again : (s : List ℕ) {k : ℕ} → Known k → kind_of (body_of k s) ≡ k
 unfolding body_of
@@ -238,7 +228,6 @@ kind-again s k-delay-req = refl
 kind-again s k-follow-up = refl
 kind-again s k-delay-resp = refl
 kind-again s k-announce = refl
-kind-again s k-signaling = refl
 
 pub written_read : (s : List ℕ) (m : Message) (p : Part) → Octets s → read_of s ≡ Got m p → octets_of m p.to ++ suffix_in s ≡ take p.to s
 written_read s m p o got =

@@ -1,4 +1,4 @@
--- Where each field lies (rules 2.2 to 2.7 and 2.18; IEEE 1588-2019, clause 13). `num k at s` is the number in the k octets from `at`.
+-- Where each field lies (rules 2.2 to 2.7; IEEE 1588-2019, clause 13). `num k at s` is the number in the k octets from `at`.
 use Rattle.std.specs.Prelude.{cond, List, ℕ, ◌+◌, ◌/◌, ◌%◌, eqb, get_or}
 use Rattle.std.specs.Int.{w8, w16, w64}
 use Rattle.std.proofs.Common.{to_z}
@@ -8,7 +8,7 @@ use Rattle.wire_layout.specs.declared.message.Port.{Port}
 use Rattle.wire_layout.specs.declared.message.Header.{Header}
 use Rattle.wire_layout.specs.declared.message.Offer.{Offer}
 use Rattle.wire_layout.specs.declared.message.Body.{Body}
-use Rattle.wire_layout.specs.declared.message.Body.TheVariants.{Sync, DelayReq, FollowUp, DelayResp, Announce, Signaling}
+use Rattle.wire_layout.specs.declared.message.Body.TheVariants.{Sync, DelayReq, FollowUp, DelayResp, Announce}
 use Rattle.wire_layout.specs.declared.message.Message.{Message}
 
 -- the lower halves of the first two octets, and the two octets behind them
@@ -60,15 +60,14 @@ offer_of s =
       time = get_or s 63 0;
     }
 
--- at 34-43 a timestamp, behind which 9 has the requesting port identity and 11 the offer; 12 has the target port identity there, and no timestamp
+-- all kinds: a timestamp at 34-43; behind it 9 has the requesting port identity and 11 the offer
 unfoldable pub body_of : ℕ → List ℕ → Body
 body_of k s =
     cond (eqb k 0) (Sync (stamp_at 34 s))
     (cond (eqb k 1) (DelayReq (stamp_at 34 s))
     (cond (eqb k 8) (FollowUp (stamp_at 34 s))
     (cond (eqb k 9) (DelayResp (stamp_at 34 s) (port_at 44 s))
-    (cond (eqb k 12) (Signaling (port_at 34 s))
-    (Announce (stamp_at 34 s) (offer_of s))))))
+    (Announce (stamp_at 34 s) (offer_of s)))))
 
 abbrev pub message_of : List ℕ → Message
 message_of s = record { header = header_of s; body = body_of (kind_in s) s }

@@ -17,7 +17,7 @@ suffix_at s = record { from = fixed_length_of (kind_in s); to = length_in s }
 abbrev pub suffix_in : List ℕ → List ℕ
 suffix_in s = take (length_in s - fixed_length_of (kind_in s)) (drop (fixed_length_of (kind_in s)) s)
 
--- when each refusal of reading is due; seconds of six octets are sound, so that FIELD is the nanoseconds', and a Signaling never meets it
+-- when each refusal of reading is due; seconds of six octets are sound, so that FIELD is the nanoseconds'
 abbrev pub reading_grounds : List ℕ → List Ground
 reading_grounds s =
     of_reading

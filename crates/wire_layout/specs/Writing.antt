@@ -11,7 +11,7 @@ use Rattle.wire_layout.specs.declared.message.Port.{Port}
 use Rattle.wire_layout.specs.declared.message.Header.{Header}
 use Rattle.wire_layout.specs.declared.message.Offer.{Offer}
 use Rattle.wire_layout.specs.declared.message.Body.{Body}
-use Rattle.wire_layout.specs.declared.message.Body.TheVariants.{Sync, DelayReq, FollowUp, DelayResp, Announce, Signaling}
+use Rattle.wire_layout.specs.declared.message.Body.TheVariants.{Sync, DelayReq, FollowUp, DelayResp, Announce}
 use Rattle.wire_layout.specs.declared.message.Message.{Message}
 use Rattle.wire_layout.specs.declared.message.Written.{Written}
 use Rattle.wire_layout.specs.declared.message.Written.TheVariants.{Wrote, Barred}
@@ -57,13 +57,12 @@ body_octets (DelayReq t) = stamp_octets t
 body_octets (FollowUp t) = stamp_octets t
 body_octets (DelayResp t p) = stamp_octets t ++ port_octets p
 body_octets (Announce t o) = stamp_octets t ++ offer_octets o
-body_octets (Signaling p) = port_octets p
 
 -- the fixed part of a message of n octets
 abbrev pub octets_of : Message → ℕ → List ℕ
 octets_of m n = header_octets m.header (kind_of m.body) n ++ body_octets m.body
 
--- no FIELD: four-bit fields up to 15, and a sound stamp, as the zero one of a Signaling is
+-- no FIELD: four-bit fields up to 15, and a sound stamp
 unfoldable pub fields_fit : Header → Stamp → Bool
 fields_fit h t = cond (ltb h.sdo 16) (cond (ltb h.minor 16) (sound_of t) false) false
 

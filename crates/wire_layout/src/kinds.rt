@@ -1,4 +1,4 @@
-// The six kinds of message: each one's number and fixed length (rules 2.5, 2.18 and 12.8).
+// The five kinds of message: each one's number and fixed length (rules 2.5 and 12.8).
 ghost use Rattle.std.specs.Prelude.{◌≡◌};
 ghost use Rattle.wire_layout.specs.Kinds.{fixed_length_of};
 
@@ -47,15 +47,6 @@ impl Announce {
     pub const LENGTH: usize = 64;
 }
 
-#[derive(Drop)]
-pub struct Signaling {}
-
-impl Signaling {
-    pub const KIND: u8 = 12;
-
-    pub const LENGTH: usize = 44;
-}
-
 // The fixed length of a kind, 0 where there is no such kind.
 pub fn fixed_length(kind: u8) -> usize
     ensures { result ≡ fixed_length_of kind }
@@ -66,7 +57,6 @@ pub fn fixed_length(kind: u8) -> usize
         FollowUp::KIND => FollowUp::LENGTH,
         DelayResp::KIND => DelayResp::LENGTH,
         Announce::KIND => Announce::LENGTH,
-        Signaling::KIND => Signaling::LENGTH,
         _ => 0,
     }
 }

@@ -47,7 +47,7 @@ pub struct Offer {
     pub time: u8,
 }
 
-// What follows the header: the timestamp, and what comes after it; of a Signaling the target port identity alone (rule 2.18).
+// What follows the header: the timestamp, and what comes after it.
 #[derive(Drop)]
 pub enum Body {
     Sync(Stamp),
@@ -55,7 +55,6 @@ pub enum Body {
     FollowUp(Stamp),
     DelayResp(Stamp, Port),
     Announce(Stamp, Offer),
-    Signaling(Port),
 }
 
 #[derive(Drop)]
@@ -95,7 +94,6 @@ impl Body {
             Body::FollowUp(_) => kinds::FollowUp::KIND,
             Body::DelayResp(_, _) => kinds::DelayResp::KIND,
             Body::Announce(_, _) => kinds::Announce::KIND,
-            Body::Signaling(_) => kinds::Signaling::KIND,
         }
     }
 
@@ -109,11 +107,10 @@ impl Body {
             Body::FollowUp(_) => kinds::FollowUp::LENGTH,
             Body::DelayResp(_, _) => kinds::DelayResp::LENGTH,
             Body::Announce(_, _) => kinds::Announce::LENGTH,
-            Body::Signaling(_) => kinds::Signaling::LENGTH,
         }
     }
 
-    // The timestamp. A Signaling has none and gives the zero one, which is sound: so FIELD never finds a stamp in it (rule 2.18).
+    // The timestamp.
     pub fn stamp(self) -> Stamp
         ensures { result ≡ stamp_in self }
     {
@@ -123,7 +120,6 @@ impl Body {
             Body::FollowUp(t) => t,
             Body::DelayResp(t, _) => t,
             Body::Announce(t, _) => t,
-            Body::Signaling(_) => Stamp::zero(),
         }
     }
 }

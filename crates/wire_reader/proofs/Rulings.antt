@@ -5,7 +5,6 @@ use mathlib.Core.List.{List}
 use Prim.Native.Nat.{ℕ}
 use native.Mathlib.Omega.{arith}
 use lib.Dec.{eqb}
-use borrow.Author.Tests.{ne_eqb}
 use Rattle.numbers.specs.declared.refusal.Refusal.{Refusal}
 use Rattle.numbers.specs.declared.ruling.Ruling.{Ruling}
 use Rattle.numbers.specs.declared.ruling.Ruling.TheVariants.{Clear, Barred}
@@ -20,10 +19,10 @@ use Rattle.wire_layout.specs.Positions.{port_at, stamp_at, offer_of, body_of, me
 use Rattle.wire_layout.specs.Reading.{reading_grounds, suffix_at, read_of}
 use Rattle.wire_layout.proofs.Trips.{Taken, taken}
 
--- every kind but a Signaling has its timestamp at the same octets
-pub stamp-is : (k : ℕ) (s : List ℕ) → (k ≡ 12 → ⊥) → stamp_in (body_of k s) ≡ stamp_at 34 s
+-- every kind has its timestamp at the same octets
+pub stamp-is : (k : ℕ) (s : List ℕ) → stamp_in (body_of k s) ≡ stamp_at 34 s
 unfolding body_of
-stamp-is k s n = simp (ne_eqb k 12 n) (by (eqb k 0) (eqb k 1) (eqb k 8) (eqb k 9))
+stamp-is k s = by (eqb k 0) (eqb k 1) (eqb k 8) (eqb k 9)
   where
     t : Stamp
     t = stamp_at 34 s

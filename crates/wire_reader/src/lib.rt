@@ -1,7 +1,7 @@
 // Reading: the octets of a message, behind the Ethernet header, become the message, or the refusal that says why not.
 ghost use Rattle.std.specs.Prelude.{◌≡◌, ◌+◌, ◌≤◌, ◌<◌, length};
 ghost use Rattle.numbers.specs.Grounds.{first_of};
-ghost use Rattle.wire_layout.specs.Kinds.{fixed_length_of, stamp_in};
+ghost use Rattle.wire_layout.specs.Kinds.{fixed_length_of};
 ghost use Rattle.wire_layout.specs.Positions.{port_at, header_of, stamp_at, offer_of, body_of};
 ghost use Rattle.wire_layout.specs.Reading.{reading_grounds, read_of};
 
@@ -85,20 +85,7 @@ fn body_of(s: &[u8], kind: u8) -> Body
         kinds::DelayReq::KIND => Body::DelayReq(stamp_at(s, 34)),
         kinds::FollowUp::KIND => Body::FollowUp(stamp_at(s, 34)),
         kinds::DelayResp::KIND => Body::DelayResp(stamp_at(s, 34), port_at(s, 44)),
-        kinds::Signaling::KIND => Body::Signaling(port_at(s, 34)),
         _ => Body::Announce(stamp_at(s, 34), offer_of(s)),
-    }
-}
-
-// The timestamp that FIELD is asked of. A Signaling has its target there, which may be anything: the zero stamp stands for it (rule 2.18).
-fn stamp_of(s: &[u8], kind: u8) -> Stamp
-    requires { 44 ≤ length s.now }
-    ensures { result ≡ stamp_in (body_of kind s.now) }
-{
-    if kind == kinds::Signaling::KIND {
-        Stamp::zero()
-    } else {
-        stamp_at(s, 34)
     }
 }
 
@@ -112,8 +99,7 @@ pub fn barred(s: &[u8]) -> Ruling
     if s[1] % 16 != 2 {
         return Ruling::Barred(Refusal::Version);
     }
-    let kind = s[0] % 16;
-    let fixed = kinds::fixed_length(kind);
+    let fixed = kinds::fixed_length(s[0] % 16);
     if fixed == 0 {
         return Ruling::Barred(Refusal::Kind);
     }
@@ -124,7 +110,7 @@ pub fn barred(s: &[u8]) -> Ruling
     if s.len() < length {
         return Ruling::Barred(Refusal::Short);
     }
-    if sound(stamp_of(s, kind)) {
+    if sound(stamp_at(s, 34)) {
         if whole(&s[fixed..length]) {
             Ruling::Clear
         } else {

@@ -1,5 +1,5 @@
 // Writing: a message and its suffix become octets in the part of a frame that is lent, or the refusal that says why not.
-ghost use Rattle.std.specs.Prelude.{◌≡◌, ◌+◌, ◌≤◌, ◌<◌, length, take};
+ghost use Rattle.std.specs.Prelude.{◌≡◌, ◌+◌, ◌≤◌, ◌<◌, length};
 ghost use Rattle.std.specs.Int.{w8, w16, w64};
 ghost use Rattle.std.proofs.Common.{of_z};
 ghost use Rattle.wire_octets.specs.Octets.{put};
@@ -146,16 +146,6 @@ fn offer_octets(o: Offer) -> [u8; 20]
     ]
 }
 
-// The first ten octets of a body: the timestamp, of a Signaling the target port identity, since it has no timestamp (rule 2.18).
-fn first_octets(b: Body) -> [u8; 10]
-    ensures { result ≡ take 10 (body_octets b) }
-{
-    match b {
-        Body::Signaling(target) => port_octets(target),
-        _ => stamp_octets(b.stamp()),
-    }
-}
-
 // Header and body, each into its place.
 fn put_header(out: &mut [u8], h: Header, kind: u8, len: u16)
     requires in_bounds { 34 ≤ length out.old }
@@ -175,8 +165,8 @@ fn put_body(out: &mut [u8], b: Body)
     requires { body_size b ≤ length out.old }
     ensures { out.new ≡ put out.old 34 (body_octets b) }
 {
-    let first = first_octets(b);
-    copy_in(out, 34, &first);
+    let stamp = stamp_octets(b.stamp());
+    copy_in(out, 34, &stamp);
     match b {
         Body::DelayResp(_, p) => {
             let port = port_octets(p);

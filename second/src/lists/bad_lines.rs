@@ -3,8 +3,7 @@
 use super::desk::Desk;
 use super::frames::{plain, write_line};
 use super::settings;
-use super::tlvs::{self, tlv_line, TYPES};
-use crate::message::{fields, ANNOUNCE, DELAY_RESP, SIGNALING, SYNC};
+use crate::message::{fields, ANNOUNCE, DELAY_RESP, SYNC};
 use crate::text::{Range, I64, U16, U32, U64, U8};
 
 /// What a word of a call has to be.
@@ -13,11 +12,7 @@ enum Kind {
     Number(Range),
     Clock,
     Octets,
-    /// The room of a lent part, where a large one has been met before.
-    Room,
 }
-
-const ROOM: Range = 0..=70_000;
 
 /// A good line and what each word behind the first is.
 struct Form {
@@ -47,16 +42,8 @@ fn write_form(kind: i128) -> Form {
             false => Kind::Number(field.word()),
         })
         .collect();
-    let room = if kind == SIGNALING { Kind::Room } else { Kind::Number(ROOM) };
-    kinds.extend([Kind::Octets, room]);
+    kinds.extend([Kind::Octets, Kind::Number(0..=70_000)]);
     form(&write_line(&plain(kind).with_suffix(&[0, 8, 0, 0]), 70), kinds)
-}
-
-fn tlv_form(kind: i128) -> Form {
-    let words = crate::tlv::fields(kind).unwrap_or(&[]).iter().map(|field| field.word());
-    let mut kinds = numbers(&[U16].into_iter().chain(words).collect::<Vec<Range>>());
-    kinds.push(Kind::Room);
-    form(&tlv_line(&tlvs::plain(kind), 12), kinds)
 }
 
 fn unit_call_forms() -> Vec<Form> {
@@ -71,7 +58,6 @@ fn unit_call_forms() -> Vec<Form> {
         form("reset", vec![]),
         form("line", vec![]),
         form("show", vec![]),
-        form("grants", vec![]),
     ]
 }
 
@@ -82,10 +68,7 @@ fn forms() -> Vec<Form> {
         form("read 00", vec![Kind::Octets]),
         write_form(DELAY_RESP),
         write_form(ANNOUNCE),
-        write_form(SIGNALING),
-        form("walk 00080000 0", vec![Kind::Octets, Kind::Number(U32)]),
     ];
-    forms.extend(TYPES.map(tlv_form));
     forms.extend(unit_call_forms());
     forms
 }
@@ -164,7 +147,6 @@ fn bad_words(kind: &Kind) -> Vec<String> {
         Kind::Number(range) => bad_numbers(range),
         Kind::Clock => bad_clocks(),
         Kind::Octets => bad_octets(),
-        Kind::Room => bad_numbers(&ROOM),
     }
 }
 
@@ -175,7 +157,6 @@ fn good_words(kind: &Kind) -> Vec<String> {
             ["ABCDEF0123456789", "ffffffffffffffff", "AbCdEf0000000000"].map(String::from).to_vec()
         }
         Kind::Octets => ["-", "00", "0123456789abcdef"].map(String::from).to_vec(),
-        Kind::Room => ["0", "00", "13", "000000000000000000000000070"].map(String::from).to_vec(),
     }
 }
 
@@ -227,7 +208,6 @@ pub fn write(desk: &mut Desk) {
     spoil(desk, &unit_form());
     desk.note("unit: a word too few");
     desk.say(&unit_form().line[..20]);
-    optional(desk);
     for form in forms() {
         spoil(desk, &form);
         good(desk, &form);
@@ -264,16 +244,13 @@ fn spoil(desk: &mut Desk, form: &Form) {
     }
 }
 
-fn past(range: &Range, word: &str) -> bool {
-    let past = [range.end() + 1, range.start() - 1].map(|value| value.to_string());
-    word.is_empty() || past.contains(&word.to_string())
-}
-
 /// A bad word that shows which range a field has, or how it takes an empty word.
 fn tells(kind: &Kind, word: &str) -> bool {
     match kind {
-        Kind::Number(range) => past(range, word),
-        Kind::Room => past(&ROOM, word),
+        Kind::Number(range) => {
+            let past = [range.end() + 1, range.start() - 1].map(|value| value.to_string());
+            word.is_empty() || past.contains(&word.to_string())
+        }
         Kind::Clock => word.len() >= 15,
         Kind::Octets => true,
     }
@@ -281,8 +258,8 @@ fn tells(kind: &Kind, word: &str) -> bool {
 
 fn good(desk: &mut Desk, form: &Form) {
     desk.say(&form.line);
-    // The kind of a `write` or of a `tlv` decides its other words: it is left as it is here.
-    let first = usize::from(["write", "tlv"].iter().any(|call| form.line.starts_with(call)));
+    // The kind of a `write` decides its other words: it is left as it is here.
+    let first = usize::from(form.line.starts_with("write"));
     let mut seen = Vec::new();
     for (place, kind) in form.kinds.iter().enumerate().skip(first) {
         let count = if seen.contains(kind) { 2 } else { 99 };
@@ -293,54 +270,10 @@ fn good(desk: &mut Desk, form: &Form) {
     }
 }
 
-/// The word `unicast=U` behind the last one: its name, its value, and where else it may not stand.
-fn optional(desk: &mut Desk) {
-    desk.note("unit: the word that may be left out");
-    let line = unit_form().line;
-    for value in bad_numbers(&I64) {
-        desk.say(format!("{line} unicast={value}"));
-    }
-    for word in [
-        "unicast",
-        "=1",
-        "=",
-        "1",
-        "unicast=1 unicast=1",
-        "unicast=0 unicast=1",
-        "unicast=2 unicast=1",
-        "unicast=1 1",
-        "1 unicast=1",
-        "unicast=1 ",
-        " unicast=1",
-        "unicast= 1",
-        "unicast =1",
-        "unicast==1",
-        "unicast:1",
-        "unicast=1=",
-        "Unicast=1",
-        "UNICAST=1",
-        "unicasts=1",
-        "nicast=1",
-        "multicast=0",
-        "mechanism=0",
-        "unicast=1 mechanism=0",
-        "jump=2000000",
-    ] {
-        desk.say(format!("{line} {word}"));
-    }
-    let words = line.split(' ').count();
-    for place in 1..words {
-        desk.say(with_word(&line, place, "unicast=1"));
-    }
-    desk.say(line.replacen("unit ", "unit unicast=1 ", 1));
-    let (before, last) = line.rsplit_once(' ').unwrap_or_default();
-    desk.say(format!("{before} unicast=1 {last}"));
-}
-
 /// `write` with every kind and with the words of another kind's body.
 fn kinds(desk: &mut Desk) {
     desk.note("write: kinds and bodies that don't go together");
-    for kind in [SYNC, DELAY_RESP, ANNOUNCE, SIGNALING] {
+    for kind in [SYNC, DELAY_RESP, ANNOUNCE] {
         let line = write_form(kind).line;
         for other in (0..20).chain([255, 256]) {
             desk.say(with_word(&line, 1, &other.to_string()));

@@ -1,7 +1,7 @@
 //! The list `card`: settings at their ends and deep states of the whole unit.
 
 use super::desk::Desk;
-use super::frames::{at_nanos, plain, with_length, KINDS};
+use super::frames::{plain, with_length, KINDS};
 use super::hall::{announce, Hall, Leg, MASTER, SECOND, TWO_STEP};
 use super::settings;
 use crate::settings::Settings;
@@ -39,7 +39,7 @@ pub fn sequence() -> Vec<u8> {
 fn ends(mut desk: Desk) -> Desk {
     desk.note("card: settings at their ends");
     type Set = fn(&mut Settings, i128);
-    let settings: [(Set, i128, i128); 12] = [
+    let settings: [(Set, i128, i128); 11] = [
         (|all, value| all.announce = value, 0, 4),
         (|all, value| all.sync = value, 0, 7),
         (|all, value| all.kp = value, 100, 1_000),
@@ -51,7 +51,6 @@ fn ends(mut desk: Desk) -> Desk {
         (|all, value| all.tolerance = value, 0, 100_000_000),
         (|all, value| all.spike = value, 1, 1_999_999),
         (|all, value| all.jump = value, 1_000_001, 999_999_999),
-        (|all, value| all.unicast = value, 0, 1),
     ];
     for (set, first, last) in settings {
         for value in [first - 1, first, last, last + 1, -1, i64::MIN as i128, i64::MAX as i128] {
@@ -116,7 +115,7 @@ fn unreadable(desk: Desk) -> Desk {
         let good = plain(kind).with("domain", 0).octets();
         let mut cases =
             vec![good[..33].to_vec(), good[..43].to_vec(), with_length(good.clone(), 43)];
-        cases.push(at_nanos(plain(kind), 1_000_000_000).octets());
+        cases.push(plain(kind).with("nanos", 1_000_000_000).octets());
         cases.push(plain(kind).with_suffix(&[0, 8, 0, 1, 0]).octets());
         cases.push([&good[..1], &[0x13], &good[2..]].concat());
         cases.push([&[0x0d], &good[1..]].concat());
@@ -146,10 +145,10 @@ fn pulses(hall: &mut Hall, count: i128) {
     }
 }
 
-pub type Cause = fn(&mut Hall);
+type Cause = fn(&mut Hall);
 
 /// The causes of a wipe; BACK in t2 and in t3.
-pub const CAUSES: [(&str, Cause); 10] = [
+const CAUSES: [(&str, Cause); 10] = [
     ("new master", |hall| {
         let better = announce(0x30, 1).with("p1", 1);
         hall.announce(&better);

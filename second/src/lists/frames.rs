@@ -1,17 +1,13 @@
 //! Messages for lists: made ones, random ones and some that linuxptp sent.
 
 use crate::dice::Dice;
-use crate::message::{fields, Message};
-use crate::message::{ANNOUNCE, DELAY_REQ, DELAY_RESP, FOLLOW_UP, SIGNALING, SYNC};
+use crate::message::{fields, Message, ANNOUNCE, DELAY_REQ, DELAY_RESP, FOLLOW_UP, SYNC};
 use crate::text::hex;
 
-pub const KINDS: [i128; 6] = [SYNC, DELAY_REQ, FOLLOW_UP, DELAY_RESP, ANNOUNCE, SIGNALING];
+pub const KINDS: [i128; 5] = [SYNC, DELAY_REQ, FOLLOW_UP, DELAY_RESP, ANNOUNCE];
 
-/// The kinds that have a timestamp.
-pub const STAMPED: [i128; 5] = [SYNC, DELAY_REQ, FOLLOW_UP, DELAY_RESP, ANNOUNCE];
-
-/// Messages as linuxptp sent them, behind the Ethernet header; of the last three the first and the
-/// third are of kinds that are not in the table (Pdelay_Req, Management).
+/// Messages as linuxptp sent them, behind the Ethernet header; the last ones are of kinds that
+/// are not in the table (Pdelay_Req, Signaling, Management).
 pub const CAPTURED: [&str; 13] = [
     "0b02004000000000000000000000000000000000020000fffe0000010001000105000000000000000000000000250064f8feffff80020000fffe0000010000a0",
     "0b02004c00000000000000000000000000000000020000fffe0000020001000005000000000000000000000000250080f8feffff80020000fffe0000020000a000080008020000fffe000002",
@@ -35,7 +31,7 @@ pub fn plain(kind: i128) -> Message {
         let value = (0x0123_4567_89ab_cdef_i128 >> place) & field.holds().end() & 0x7fff_ffff;
         message = message.with(field.name, value);
     }
-    at_nanos(message, 123_456_789)
+    message.with("nanos", 123_456_789)
 }
 
 /// A message of a kind with random values, extremes among them.
@@ -50,15 +46,8 @@ pub fn random(kind: i128, dice: &mut Dice) -> Message {
         };
         message = message.with(field.name, value);
     }
-    at_nanos(message, dice.between(0, 999_999_999))
-}
-
-/// The message with these nanoseconds, where it has any.
-pub fn at_nanos(message: Message, nanos: i128) -> Message {
-    match STAMPED.contains(&message.kind()) {
-        true => message.with("nanos", nanos),
-        false => message,
-    }
+    let nanos = dice.between(0, 999_999_999);
+    message.with("nanos", nanos)
 }
 
 /// Whole TLVs of even length.

@@ -5,21 +5,16 @@ pub mod card;
 pub mod desk;
 pub mod exchange;
 pub mod frames;
-pub mod grants;
 pub mod hall;
 pub mod hour;
 pub mod masters;
 pub mod partners;
 pub mod random;
-pub mod random_signals;
 pub mod reading;
 pub mod servo;
 pub mod settings;
-pub mod signals;
 pub mod stamps;
 pub mod suffixes;
-pub mod tlvs;
-pub mod unicast;
 pub mod verdicts;
 pub mod watch;
 pub mod wire;
@@ -33,7 +28,6 @@ pub fn named(name: &str) -> Option<Vec<u8>> {
         "exchange" => Some(exchange::list()),
         "watch" => Some(watch::list()),
         "card" => Some(card::list()),
-        "unicast" => Some(unicast::list()),
         "sequence" => Some(card::sequence()),
         "hour" => Some(hour::list(3_600)),
         "whole" => Some(whole()),
@@ -49,8 +43,8 @@ pub fn stored() -> Vec<u8> {
 
 /// Every list one after the other, and a few random ones.
 pub fn whole() -> Vec<u8> {
-    let names = ["wire", "masters", "exchange", "watch", "card", "unicast"];
-    let mut all: Vec<Vec<u8>> = names.iter().filter_map(|name| named(name)).collect();
+    let mut all =
+        vec![wire::list(), masters::list(), exchange::list(), watch::list(), card::list()];
     all.extend((1..=4).map(|seed| random::list(seed, 1_000)));
     all.concat()
 }

@@ -3,9 +3,7 @@
 use super::desk::Desk;
 use super::frames::{self, read_line, write_line, KINDS};
 use super::hall::{announce, Hall, Leg, Trip, MASTER, SECOND, TWO_STEP};
-use super::random_signals::port_of;
 use super::settings;
-use super::signals;
 use crate::dice::Dice;
 use crate::message::Message;
 use crate::settings::Settings;
@@ -25,12 +23,10 @@ fn first_lines(text: Vec<u8>, count: usize) -> Vec<u8> {
     lines.take(count).flatten().copied().collect()
 }
 
-pub struct Life {
-    pub hall: Hall,
-    pub dice: Dice,
-    pub senders: Vec<Message>,
-    /// Until when each of the senders has a grant, as far as it was last heard of.
-    pub granted: Vec<i128>,
+struct Life {
+    hall: Hall,
+    dice: Dice,
+    senders: Vec<Message>,
     announced: i128,
     delay: i128,
     reference: i128,
@@ -47,7 +43,6 @@ impl Life {
             hall: Hall::open(Desk::default(), all),
             dice,
             senders: Vec::new(),
-            granted: Vec::new(),
             announced: 0,
             delay: 10_000,
             reference: 0,
@@ -60,7 +55,7 @@ impl Life {
 
     /// One deed, by weight.
     fn something(&mut self) {
-        let deeds: [(u64, Deed); 23] = [
+        let deeds: [(u64, Deed); 20] = [
             (8, Life::quiet_run),
             (5, Life::noisy_run),
             (2, Life::swinging_run),
@@ -77,16 +72,17 @@ impl Life {
             (2, Life::reset),
             (3, Life::other_unit),
             (3, Life::lend),
-            (10, Life::wire),
+            (8, Life::wire),
             (12, Life::again),
             (12, Life::mangled),
             (8, Life::odd_request),
-            (9, Life::signals),
-            (3, Life::odd_signal),
-            (5, Life::tlvs),
         ];
-        if self.mended() {
-            return;
+        // A faulty unit is left so for a while only: the exchange has more to show.
+        if self.hall.desk.last() == "refused 18" && self.dice.once_in(3) {
+            return self.reset();
+        }
+        if self.hall.desk.last() == "refused 9" && self.dice.once_in(2) {
+            return self.look();
         }
         let all: u64 = deeds.iter().map(|(weight, _)| weight).sum();
         let mut at = self.dice.below(all);
@@ -98,27 +94,13 @@ impl Life {
         }
     }
 
-    /// Whether something was done about the last refusal. A faulty unit is left so for a while only,
-    /// and so is one whose master has no grant: the exchange has more to show.
-    fn mended(&mut self) -> bool {
-        let deed: Deed = match self.hall.desk.last() {
-            "refused 18" if self.dice.once_in(3) => Life::reset,
-            "refused 9" if self.dice.once_in(2) => Life::look,
-            "refused 26" if !self.dice.once_in(3) => Life::grant_anew,
-            _ => return false,
-        };
-        deed(self);
-        true
-    }
-
-    pub fn say(&mut self, line: &str) -> String {
+    fn say(&mut self, line: &str) -> String {
         self.hall.say(line)
     }
 
     /// Senders with few different values, so that every key of the comparison decides at times.
     fn people(&mut self) {
         self.senders.clear();
-        self.granted = vec![-1; 7];
         for place in 0..7 {
             let p1 = if place == 0 { 1 } else { self.dice.between(1, 3) };
             let sender = announce(MASTER + place, self.dice.between(1, 2))
@@ -137,14 +119,8 @@ impl Life {
         self.hear(0);
     }
 
-    pub fn hear(&mut self, place: usize) {
+    fn hear(&mut self, place: usize) {
         let sender = self.senders[place].clone();
-        let missing = self.hall.settings.unicast == 1 && self.hall.now > self.granted[place];
-        if missing && !self.dice.once_in(8) {
-            let seconds = *self.dice.pick(&[1, 5, 20, 60, 300, 300, 4_294_967_295]);
-            self.hall.signal(port_of(&sender), &signals::grants(seconds));
-            self.granted[place] = self.hall.now + 1_000 * seconds;
-        }
         let answer = self.hall.announce(&sender);
         self.announced = self.hall.now;
         self.follow(&answer);
@@ -388,11 +364,11 @@ impl Life {
     }
 
     fn ask(&mut self) {
-        let line = *self.dice.pick(&["show", "show", "line", "grants"]);
+        let line = *self.dice.pick(&["show", "show", "line"]);
         self.say(line);
     }
 
-    pub fn clock(&mut self) {
+    fn clock(&mut self) {
         let now = self.hall.now + self.dice.between(-1, 1);
         let now = now.clamp(0, u64::MAX as i128);
         let answer = self.say(&format!("time {now}"));
@@ -403,8 +379,7 @@ impl Life {
     /// Time goes on to the edge of something, and nobody has announced meanwhile.
     fn leap(&mut self) {
         let interval = self.hall.settings.interval();
-        let granted = (self.granted[0] - self.hall.now).clamp(1, 400_000);
-        let edges = [interval, 3 * interval, 4 * interval, 10_000, 40_000, granted];
+        let edges = [interval, 3 * interval, 4 * interval, 10_000, 40_000];
         let later = *self.dice.pick(&edges) + self.dice.between(-1, 1);
         self.later(later);
         if self.dice.once_in(2) {
@@ -436,7 +411,7 @@ impl Life {
         }
     }
 
-    pub fn later(&mut self, milliseconds: i128) {
+    fn later(&mut self, milliseconds: i128) {
         self.hall.now = (self.hall.now + milliseconds).min(u64::MAX as i128);
     }
 
@@ -459,13 +434,7 @@ impl Life {
         if self.dice.once_in(4) {
             spoil(&mut all, &mut self.dice);
         }
-        let line = settings::line(&all);
-        if self.dice.once_in(6) {
-            // More than the one word that may be left out, or nothing behind it.
-            let word = *self.dice.pick(&["unicast=", "unicast=1 unicast=1", "unicast", "unicas=1"]);
-            self.say(&format!("{line} {word}"));
-        }
-        if self.say(&line) == "refused 8" {
+        if self.say(&settings::line(&all)) == "refused 8" {
             return;
         }
         self.hall.settings = all;
@@ -571,13 +540,12 @@ fn good_settings(dice: &mut Dice) -> Settings {
         tolerance: *dice.pick(&[0, 2_000_000, 2_000_000, 100_000_000]),
         spike,
         jump: *dice.pick(&[spike + 1, wide, wide.min(2 * spike)]).max(&(spike + 1)),
-        unicast: i128::from(dice.once_in(3)),
     }
 }
 
 /// One setting outside its range.
 fn spoil(all: &mut Settings, dice: &mut Dice) {
-    match dice.below(12) {
+    match dice.below(11) {
         0 => all.announce = *dice.pick(&[-1, 5]),
         1 => all.sync = *dice.pick(&[-1, 8]),
         2 => all.kp = *dice.pick(&[99, 1_001]),
@@ -588,7 +556,6 @@ fn spoil(all: &mut Settings, dice: &mut Dice) {
         7 => all.holdoff = *dice.pick(&[-1, 11]),
         8 => all.tolerance = *dice.pick(&[-1, 100_000_001]),
         9 => all.spike = *dice.pick(&[0, all.jump]),
-        10 => all.unicast = *dice.pick(&[-1, 2]),
         _ => all.jump = *dice.pick(&[all.spike, 1_000_000_000]),
     }
 }

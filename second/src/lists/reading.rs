@@ -1,7 +1,7 @@
 //! Frames for `read`: good ones, every edge of a length, every refusal and their order.
 
 use super::desk::Desk;
-use super::frames::{self, plain, read_line, with_length, KINDS, STAMPED};
+use super::frames::{self, plain, read_line, with_length, KINDS};
 use super::suffixes;
 use crate::dice::Dice;
 use crate::message::{fields, fixed_length, ANNOUNCE, SYNC};
@@ -41,9 +41,7 @@ fn extremes(desk: &mut Desk) {
         let mut ones = vec![0xff; plain(kind).octets().len()];
         ones[0] = 0xf0 | kind as u8;
         ones[1] = 0xf2;
-        if STAMPED.contains(&kind) {
-            ones[40..44].copy_from_slice(&999_999_999_u32.to_be_bytes());
-        }
+        ones[40..44].copy_from_slice(&999_999_999_u32.to_be_bytes());
         let length = ones.len();
         desk.say(read_line(&with_length(ones, length)));
     }
@@ -114,7 +112,7 @@ fn padding(desk: &mut Desk) {
 
 fn stamps(desk: &mut Desk) {
     desk.note("reading: seconds and nanoseconds at their ends");
-    for kind in STAMPED {
+    for kind in KINDS {
         for nanos in [0, 1, 999_999_999, 1_000_000_000, 1_000_000_001, 4_294_967_295] {
             for seconds in [0, 1, 4_294_967_295, 4_294_967_296, (1 << 48) - 1] {
                 let message = plain(kind).with("nanos", nanos).with("seconds", seconds);
@@ -137,7 +135,7 @@ fn orders(desk: &mut Desk) {
             octets[1] = 0x11;
         }
         if wrong(1) {
-            octets[0] = 0x0d;
+            octets[0] = 0x0c;
         }
         if wrong(2) {
             octets = with_length(octets, 43);

@@ -19,7 +19,6 @@ pub fn bench() -> Settings {
         tolerance: 2_000_000,
         spike: 1_000_000,
         jump: 2_000_000,
-        unicast: 0,
     }
 }
 
@@ -28,17 +27,12 @@ pub fn exchange() -> Settings {
     Settings { announce: 4, ..bench() }
 }
 
-/// Settings of a hall without multicast.
-pub fn unicast() -> Settings {
-    Settings { unicast: 1, ..exchange() }
-}
-
 /// Settings under which P11 and P12 are read.
 pub fn watch() -> Settings {
     Settings { minimum: 3, holdoff: 0, ..bench() }
 }
 
-/// The settings' line, without the word that may be left out where it says 0.
+/// The settings' line.
 pub fn line(settings: &Settings) -> String {
     let numbers = [
         settings.announce,
@@ -55,9 +49,5 @@ pub fn line(settings: &Settings) -> String {
     ];
     let numbers = numbers.map(|number| number.to_string()).join(" ");
     let (domain, clock, port) = (settings.domain, settings.clock, settings.port);
-    let unicast = match settings.unicast {
-        0 => String::new(),
-        other => format!(" unicast={other}"),
-    };
-    format!("unit {domain} {clock:016x} {port} {numbers}{unicast}")
+    format!("unit {domain} {clock:016x} {port} {numbers}")
 }

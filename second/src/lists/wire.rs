@@ -1,8 +1,8 @@
-//! The list `wire`: reading, writing, unicast TLVs, bad lines and unit calls without a unit.
+//! The list `wire`: reading, writing, bad lines and unit calls without a unit.
 
 use super::desk::Desk;
 use super::frames::{plain, read_line, with_length, write_line};
-use super::{bad_lines, reading, tlvs, writing};
+use super::{bad_lines, reading, writing};
 use crate::message::{ANNOUNCE, SYNC};
 use crate::text::LONGEST;
 
@@ -11,7 +11,6 @@ pub fn list() -> Vec<u8> {
     bad_lines::write(&mut desk);
     reading::write(&mut desk);
     writing::write(&mut desk);
-    tlvs::write(&mut desk);
     long_reads(&mut desk);
     long_writes(&mut desk);
     longest_lines(&mut desk);

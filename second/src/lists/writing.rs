@@ -1,7 +1,7 @@
 //! Messages for `write`: field ends, rooms, suffixes, every refusal and their order.
 
 use super::desk::Desk;
-use super::frames::{self, plain, write_line, KINDS, STAMPED};
+use super::frames::{self, plain, write_line, KINDS};
 use super::suffixes;
 use crate::dice::Dice;
 use crate::message::{fields, ANNOUNCE, DELAY_RESP, SYNC};
@@ -41,7 +41,7 @@ fn four_bits(desk: &mut Desk) {
 
 fn stamps(desk: &mut Desk) {
     desk.note("writing: seconds and nanoseconds at their ends");
-    for kind in STAMPED {
+    for kind in KINDS {
         for nanos in [0, 999_999_999, 1_000_000_000, 4_294_967_295] {
             for seconds in [0, (1 << 48) - 1, 1 << 48, (1 << 64) - 1] {
                 let message = plain(kind).with("nanos", nanos).with("seconds", seconds);

@@ -6,7 +6,7 @@ use super::drift::overview;
 use super::scale::count;
 use super::story::{tell, Life, Story};
 use super::windows::windows;
-use crate::refusal;
+use crate::refusal::NAMES;
 use std::collections::BTreeMap;
 
 /// How many units have a section of their own, and how many wipes a row.
@@ -120,7 +120,7 @@ fn counts(story: &Story) -> String {
     let mut text = String::from("<h2>Counts</h2>\n<div class=\"tables\">\n");
     text += "<table><tr><th>Refusal</th><th>Name</th><th>Times</th></tr>\n";
     for (number, times) in &story.refusals {
-        let name = refusal::name(*number);
+        let name = NAMES[usize::from(*number) - 1];
         text += &format!("<tr><td>{number}</td><td>{name}</td><td>{}</td></tr>\n", count(*times));
     }
     if story.refusals.is_empty() {

@@ -36,10 +36,10 @@ impl Kind {
 }
 
 /// The first word of every answer.
-const FIRST: [&str; 27] = [
+const FIRST: [&str; 24] = [
     "bad", "no", "refused", "ok", "message", "wrote", "chosen", "held", "paired", "measured",
     "neg", "long", "huge", "path", "step", "asked", "stamped", "wiped", "taken", "back", "range",
-    "jump", "line", "port", "found", "signaled", "grants",
+    "jump", "line", "port",
 ];
 
 /// Whether a line could be an answer at all.

@@ -64,11 +64,8 @@ impl<F: FnMut(&[u8], usize, usize) -> Result<Option<Difference>, String>> Shrink
     fn make_plainer(&mut self) -> Result<bool, String> {
         let (mut at, mut any) = (0, false);
         while at < self.calls.len() && !self.late() {
-            for plain in plainer(&self.calls, at) {
-                if self.take(plain)? {
-                    any = true;
-                    break;
-                }
+            if let Some(plain) = plainer(&self.calls, at) {
+                any |= self.take(plain)?;
             }
             at += 1;
         }

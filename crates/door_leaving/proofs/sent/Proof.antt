@@ -12,7 +12,6 @@ use Rattle.door_measuring.proofs.measuring.untold as f-untold
 use Rattle.door_measuring.proofs.measuring.steer as f-steer
 use Rattle.door_measuring.proofs.measuring.say as f-say
 use Rattle.rules_watch.proofs.empty as f-empty
-use Rattle.numbers.specs.Orders.{number_of}
 use Rattle.rules_watch.specs.Watch.{fresh_watch}
 use Rattle.door_words.specs.Answers.{refusing}
 use Rattle.door_measuring.specs.Measuring.{sent_told, servo_after, output_said}
@@ -53,7 +52,7 @@ module _ {M : Type 1} {𝓤 : Ura M} (𝓛 : Logic 𝓤) (at_mem : Memory → SP
       abbrev leave-all : Item 𝓤
       leave-all = ‵ (leave (code.function).locals blocks ftrue)
 
-      from-8-3 : (qq : Kit-Post 𝓤 H) (ee : post 𝓤 H qq returnsᴼ ≡ at_return 𝓤 H En Post returnsᴼ) (g-2 : Fits K-SettingsWords h1.settings) (g-4 : Fits K-StateWords h1.state) (g-6 : Fits K-HalvesWords h1.halves) (g-8 : Fits K-DelaysWords h1.delays) (p-9 : (of K-Told)) (e_10 : p-9 ≡ sent_told h1.settings h1.state h1.halves h1.delays h4 h5 h6) (is-11 : Fits K-Told p-9) (held1 : Holds p-9.barred) (p-12 : (of K-AnswerWords)) (e-13 : p-12 ≡ refusing (number_of p-9.refusal)) (is-14 : Fits K-AnswerWords p-12) → Sq 𝓛 (‵ (lent K-AnswerWords a7 p-12) ∷ ‵ (lent K-UnitWords a1 h1) ∷ ‵ (lent K-Watch a3 h3) ∷ ‵ (lent K-Servo a2 h2) ∷ ‵ (ftrue) ∷ ‵ ((row_of K-Stamp).own h6 ((K-Stamp.val h6) ∷ [])) ∷ ‵ ((row_of K-u16).own h5 ((K-u16.val h5) ∷ [])) ∷ ‵ ((row_of K-u64).own h4 ((K-u64.val h4) ∷ [])) ∷ leave-all ∷ ‵ (froom (ty_ref erased mut (pointee (row_of K-u8x128).written)) l27 0) ∷ ‵ (froom (ty_ref erased mut (pointee (row_of K-i32x128).written)) l26 0) ∷ ‵ (froom (ty_ref erased mut (pointee (row_of K-i64x128).written)) l25 0) ∷ ‵ (froom (ty K-Head) l24 0) ∷ ‵ (froom (ty K-AnswerWords) l23 0) ∷ ‵ (froom (ty K-AnswerWords) l22 0) ∷ ‵ (froom ty_bool l21 0) ∷ ‵ (froom (ty_int w16) l20 0) ∷ ‵ (froom (ty_int w8) l19 0) ∷ ‵ (froom (ty K-Servo) l18 0) ∷ ‵ (froom ty_bool l17 0) ∷ ‵ (froom ty_bool l16 0) ∷ ‵ (froom (ty K-Accepted) l15 0) ∷ ‵ (froom (ty K-Servo) l14 0) ∷ ‵ (froom ty_bool l13 0) ∷ ‵ (froom (ty K-Told) l12 0) ∷ ‵ (froom (ty K-DelaysWords) l11 0) ∷ ‵ (froom (ty K-HalvesWords) l10 0) ∷ ‵ (froom (ty K-StateWords) l9 0) ∷ ‵ (froom (ty K-SettingsWords) l8 0) ∷ ‵ (froom (ty_ref (named 3) mut (pointee (row_of K-AnswerWords).written)) l7 0) ∷ ‵ (froom (ty K-Stamp) l6 0) ∷ ‵ (froom (ty_int w16) l5 0) ∷ ‵ (froom (ty_int w64) l4 0) ∷ ‵ (froom (ty_ref (named 2) mut (pointee (row_of K-Watch).written)) l3 0) ∷ ‵ (froom (ty_ref (named 1) mut (pointee (row_of K-Servo).written)) l2 0) ∷ ‵ (froom (ty_ref (named 0) mut (pointee (row_of K-UnitWords).written)) l1 0) ∷ ‵ (froom ty_unit l0 0) ∷ []) (runs C Λ En (past 2 (then-of mir'.s-8)) qq)
+      from-8-3 : (qq : Kit-Post 𝓤 H) (ee : post 𝓤 H qq returnsᴼ ≡ at_return 𝓤 H En Post returnsᴼ) (g-2 : Fits K-SettingsWords h1.settings) (g-4 : Fits K-StateWords h1.state) (g-6 : Fits K-HalvesWords h1.halves) (g-8 : Fits K-DelaysWords h1.delays) (p-9 : (of K-Told)) (e_10 : p-9 ≡ sent_told h1.settings h1.state h1.halves h1.delays h4 h5 h6) (is-11 : Fits K-Told p-9) (held1 : Holds p-9.barred) (p-12 : (of K-AnswerWords)) (e-13 : p-12 ≡ refusing p-9.number) (is-14 : Fits K-AnswerWords p-12) → Sq 𝓛 (‵ (lent K-AnswerWords a7 p-12) ∷ ‵ (lent K-UnitWords a1 h1) ∷ ‵ (lent K-Watch a3 h3) ∷ ‵ (lent K-Servo a2 h2) ∷ ‵ (ftrue) ∷ ‵ ((row_of K-Stamp).own h6 ((K-Stamp.val h6) ∷ [])) ∷ ‵ ((row_of K-u16).own h5 ((K-u16.val h5) ∷ [])) ∷ ‵ ((row_of K-u64).own h4 ((K-u64.val h4) ∷ [])) ∷ leave-all ∷ ‵ (froom (ty_ref erased mut (pointee (row_of K-u8x128).written)) l27 0) ∷ ‵ (froom (ty_ref erased mut (pointee (row_of K-i32x128).written)) l26 0) ∷ ‵ (froom (ty_ref erased mut (pointee (row_of K-i64x128).written)) l25 0) ∷ ‵ (froom (ty K-Head) l24 0) ∷ ‵ (froom (ty K-AnswerWords) l23 0) ∷ ‵ (froom (ty K-AnswerWords) l22 0) ∷ ‵ (froom ty_bool l21 0) ∷ ‵ (froom (ty_int w16) l20 0) ∷ ‵ (froom (ty_int w8) l19 0) ∷ ‵ (froom (ty K-Servo) l18 0) ∷ ‵ (froom ty_bool l17 0) ∷ ‵ (froom ty_bool l16 0) ∷ ‵ (froom (ty K-Accepted) l15 0) ∷ ‵ (froom (ty K-Servo) l14 0) ∷ ‵ (froom ty_bool l13 0) ∷ ‵ (froom (ty K-Told) l12 0) ∷ ‵ (froom (ty K-DelaysWords) l11 0) ∷ ‵ (froom (ty K-HalvesWords) l10 0) ∷ ‵ (froom (ty K-StateWords) l9 0) ∷ ‵ (froom (ty K-SettingsWords) l8 0) ∷ ‵ (froom (ty_ref (named 3) mut (pointee (row_of K-AnswerWords).written)) l7 0) ∷ ‵ (froom (ty K-Stamp) l6 0) ∷ ‵ (froom (ty_int w16) l5 0) ∷ ‵ (froom (ty_int w64) l4 0) ∷ ‵ (froom (ty_ref (named 2) mut (pointee (row_of K-Watch).written)) l3 0) ∷ ‵ (froom (ty_ref (named 1) mut (pointee (row_of K-Servo).written)) l2 0) ∷ ‵ (froom (ty_ref (named 0) mut (pointee (row_of K-UnitWords).written)) l1 0) ∷ ‵ (froom ty_unit l0 0) ∷ []) (runs C Λ En (past 2 (then-of mir'.s-8)) qq)
       from-8-3 qq ee g-2 g-4 g-6 g-8 p-9 e_10 is-11 held1 p-12 e-13 is-14 =
           assigns ! (of_opd ! (unit_lit !)) (from ! (stop !)) (init ! 36 refl (tt, tt)) $
           returns_within ! Post ee (look ! 36 refl) $ forget ! 36 refl $ move ! (8 ∷ 9 ∷ 10 ∷ 11 ∷ 12 ∷ 13 ∷ 14 ∷ 15 ∷ 16 ∷ 17 ∷ 18 ∷ 19 ∷ 20 ∷ 21 ∷ 22 ∷ 23 ∷ 24 ∷ 25 ∷ 26 ∷ 27 ∷ 28 ∷ 29 ∷ 30 ∷ 31 ∷ 32 ∷ 33 ∷ 34 ∷ 35 ∷ 36 ∷ []) $ frees_all ! (code.function).locals blocks (

@@ -9,7 +9,7 @@ use Rattle.wire_layout.specs.Kinds.{fixed_length_of}
 use Rattle.wire_layout.specs.Positions.{kind_in, length_in}
 use Rattle.wire_layout.proofs.Known.{known, room-44}
 use Rattle.wire_layout.proofs.Cases.{Head, Sized, stamp_of, r-short, r-version, r-kind, r-length, r-cut, r_field, r-whole}
-use Rattle.wire_reader.proofs.Rulings.{is-barred, is-clear}
+use Rattle.wire_reader.proofs.Rulings.{stamp-is, is-barred, is-clear}
 use Rattle.wire_reader.proofs.barred.Statement.{statement}
 use Rattle.wire_reader.proofs.barred.Tie as tie
 
@@ -41,7 +41,7 @@ sized c =
 sound-of : (c : tie.After-sound) → c.sound.result ≡ sound_of (stamp_of (octets c.before.before.before.before.before.before))
 sound-of c =
     let s = octets c.before.before.before.before.before.before in
-    c.sound.ensures ∙ ap sound_of c.before.stamp-of.ensures
+    c.sound.ensures ∙ ap sound_of (c.before.stamp-at.ensures ∙ sym (stamp-is (kind_in s) s))
 
 returns : tie.Need-returns
 returns c = let s = c.before.before.args.s.now in sym (is-barred s (r-short s c.if1.true))
@@ -54,8 +54,8 @@ returns-2 c =
     let s = c.before.before.before.before.args.s.now in
     sym (is-barred s (r-version s c.before.before.if1.false c.if2.true))
 
-shared-slice-read-kind : tie.Need-shared-slice-read-kind
-shared-slice-read-kind c = search rules
+shared-slice-read-fixed-length : tie.Need-shared-slice-read-fixed-length
+shared-slice-read-fixed-length c = search rules
 
 fixed-length-requires : tie.Need-fixed-length-requires
 fixed-length-requires c κs = search rules
@@ -86,8 +86,8 @@ returns-5 c =
     let s = octets h.before in
     sym (is-barred s (r-cut s (head h) (rw (fixed-is h.before, length-is w) at c.before.if4.false) (rw (length-is w) at c.if5.true)))
 
-stamp-of-requires : tie.Need-stamp-of-requires
-stamp-of-requires c κs =
+stamp-at-requires : tie.Need-stamp-at-requires
+stamp-at-requires c κs =
     let z = sized c in
     omega (arith, room-44 (known (kind_in (octets c.before.before.before.before)) z.head.kind), z.fixed, z.all)
 
@@ -134,14 +134,14 @@ barred-spec =
     returns
     shared-slice-read-if2
     returns-2
-    shared-slice-read-kind
+    shared-slice-read-fixed-length
     fixed-length-requires
     returns-3
     u16-at-requires
     cast-length
     returns-4
     returns-5
-    stamp-of-requires
+    stamp-at-requires
     sound-requires
     part-whole-start
     part-whole-end

@@ -36,29 +36,20 @@ enum-told-5 c = search rules
 take-requires-4 : tie.Need-take-requires-4
 take-requires-4 c κs = search rules
 
-enum-told-6 : tie.Need-enum-told-6
-enum-told-6 c = search rules
-
-take-requires-5 : tie.Need-take-requires-5
-take-requires-5 c κs = search rules
-
 returns : tie.Need-returns
-returns c = c.take.ensures ∙ sym (ap (λ (b : Body). sorted_by c.before.before.before.args.m c.before.before.before.args.part b) c.before.enum_told.given.1)
+returns c = c.take.ensures ∙ sym (ap (λ (b : Body). sorted_by c.before.before.before.args.m b) c.before.enum_told.given.1)
 
 returns-2 : tie.Need-returns-2
-returns-2 c = c.bar.ensures ∙ sym (ap (λ (b : Body). sorted_by c.before.before.before.args.m c.before.before.before.args.part b) c.before.enum-told2.given.1)
+returns-2 c = c.bar.ensures ∙ sym (ap (λ (b : Body). sorted_by c.before.before.before.args.m b) c.before.enum-told2.given.1)
 
 returns-3 : tie.Need-returns-3
-returns-3 c = c.take2.ensures ∙ sym (ap (λ (b : Body). sorted_by c.before.before.before.args.m c.before.before.before.args.part b) c.before.enum-told3.given.1)
+returns-3 c = c.take2.ensures ∙ sym (ap (λ (b : Body). sorted_by c.before.before.before.args.m b) c.before.enum-told3.given.1)
 
 returns-4 : tie.Need-returns-4
-returns-4 c = c.take3.ensures ∙ sym (ap (λ (b : Body). sorted_by c.before.before.before.args.m c.before.before.before.args.part b) c.before.enum-told4.given.1)
+returns-4 c = c.take3.ensures ∙ sym (ap (λ (b : Body). sorted_by c.before.before.before.args.m b) c.before.enum-told4.given.1)
 
 returns-5 : tie.Need-returns-5
-returns-5 c = c.take4.ensures ∙ sym (ap (λ (b : Body). sorted_by c.before.before.before.args.m c.before.before.before.args.part b) c.before.enum-told5.given.1)
-
-returns-6 : tie.Need-returns-6
-returns-6 c = c.take5.ensures ∙ sym (ap (λ (b : Body). sorted_by c.before.before.before.args.m c.before.before.before.args.part b) c.before.enum-told6.given.1)
+returns-5 c = c.take4.ensures ∙ sym (ap (λ (b : Body). sorted_by c.before.before.before.args.m b) c.before.enum-told5.given.1)
 
 pub sort-spec : {M : Type 1} → statement M
 sort-spec =
@@ -74,11 +65,8 @@ sort-spec =
     take-requires-3
     enum-told-5
     take-requires-4
-    enum-told-6
-    take-requires-5
     returns
     returns-2
     returns-3
     returns-4
-    returns-5
-    returns-6)
+    returns-5)

@@ -60,12 +60,6 @@ enum-told-2 c = search rules
 refuse-requires-2 : tie.Need-refuse-requires-2
 refuse-requires-2 c κs = search rules
 
-enum-told-3 : tie.Need-enum-told-3
-enum-told-3 c = search rules
-
-refuse-requires-3 : tie.Need-refuse-requires-3
-refuse-requires-3 c κs = search rules
-
 -- the correction is an i64
 fits : (c : tie.After-struct-told) → SFits w64 c.before.before.before.before.before.before.before.args.m.header.correction
 fits c = search rules
@@ -91,9 +85,6 @@ returns-4 c = rw c.before.enum_told.given.1 c.refuse.ensures
 returns-5 : tie.Need-returns-5
 returns-5 c = rw c.before.enum-told2.given.1 c.refuse2.ensures
 
-returns-6 : tie.Need-returns-6
-returns-6 c = rw c.before.enum-told3.given.1 c.refuse3.ensures
-
 pub hand-spec : {M : Type 1} → statement M
 hand-spec =
     tie.close
@@ -116,11 +107,8 @@ hand-spec =
     refuse-requires
     enum-told-2
     refuse-requires-2
-    enum-told-3
-    refuse-requires-3
     returns
     returns-2
     returns-3
     returns-4
-    returns-5
-    returns-6)
+    returns-5)

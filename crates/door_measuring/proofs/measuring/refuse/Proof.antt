@@ -12,8 +12,11 @@ of-requires c κs = search rules
 of-requires-2 : tie.Need-of-requires-2
 of-requires-2 c κs = search rules
 
+number-requires : tie.Need-number-requires
+number-requires c κs = search rules
+
 returns : tie.Need-returns
-returns c = rw (c.of2.ensures, c.before.of.ensures, c.before.before.fresh.ensures)
+returns c = rw (c.number.ensures, c.before.of2.ensures, c.before.before.of.ensures, c.before.before.before.fresh.ensures)
 
 pub refuse-spec : {M : Type 1} → statement M
-refuse-spec = tie.close (tie.spec fresh-requires of-requires of-requires-2 returns)
+refuse-spec = tie.close (tie.spec fresh-requires of-requires of-requires-2 number-requires returns)

@@ -30,12 +30,6 @@ no-offer-requires-4 c κs = search rules
 enum-known-body : tie.Need-enum-known-body
 enum-known-body c = search rules
 
-enum-told-5 : tie.Need-enum-told-5
-enum-told-5 c = search rules
-
-no-offer-requires-5 : tie.Need-no-offer-requires-5
-no-offer-requires-5 c κs = search rules
-
 returns : tie.Need-returns
 returns c = rw c.before.enum_told.given.1 c.no-offer.ensures
 
@@ -51,9 +45,6 @@ returns-4 c = rw c.before.enum-told4.given.1 c.no-offer4.ensures
 returns-5 : tie.Need-returns-5
 returns-5 c = rw c.before.body.given.1
 
-returns-6 : tie.Need-returns-6
-returns-6 c = rw c.before.enum-told5.given.1 c.no-offer5.ensures
-
 pub offer-in-spec : {M : Type 1} → statement M
 offer-in-spec =
     tie.close
@@ -67,11 +58,8 @@ offer-in-spec =
     enum-told-4
     no-offer-requires-4
     enum-known-body
-    enum-told-5
-    no-offer-requires-5
     returns
     returns-2
     returns-3
     returns-4
-    returns-5
-    returns-6)
+    returns-5)

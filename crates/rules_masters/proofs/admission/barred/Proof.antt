@@ -27,17 +27,13 @@ returns-4 c = search (tested, sym c.before.alternate.ensures ∙ c.if4.true)
 
 returns-5 : tie.Need-returns-5
 unfolding first_of
-returns-5 c = search (tested, sym c.before.before.alternate.ensures ∙ c.before.if4.false, c.if5.true)
+returns-5 c = search (tested, sym c.before.before.before.alternate.ensures ∙ c.before.before.if4.false)
 
 returns-6 : tie.Need-returns-6
 unfolding first_of
-returns-6 c = search (tested, sym c.before.before.before.before.alternate.ensures ∙ c.before.before.before.if4.false, c.before.before.if5.false)
-
-returns-7 : tie.Need-returns-7
-unfolding first_of
-returns-7 c = search (tested, sym c.before.before.before.before.alternate.ensures ∙ c.before.before.before.if4.false, c.before.before.if5.false)
+returns-6 c = search (tested, sym c.before.before.before.alternate.ensures ∙ c.before.before.if4.false)
 
 pub barred-spec : {M : Type 1} → statement M
 barred-spec =
     tie.close
-    (tie.spec returns returns-2 returns-3 alternate-requires returns-4 returns-5 returns-6 returns-7)
+    (tie.spec returns returns-2 returns-3 alternate-requires returns-4 returns-5 returns-6)

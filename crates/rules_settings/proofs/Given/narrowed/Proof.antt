@@ -67,9 +67,6 @@ narrow-requires-11 c κs = search rules
 cast-t15 : tie.Need-overflow-cast-t15
 cast-t15 c = search rules
 
-narrow-requires-12 : tie.Need-narrow-requires-12
-narrow-requires-12 c κs = search rules
-
 fits-window : (c : tie.After-struct-told) → SFits w64 c.before.args.self.window
 fits-window c = search rules
 
@@ -103,25 +100,21 @@ fits-ki c = search rules
 fits-limit : (c : tie.After-struct-told11) → SFits w64 c.before.before.before.before.before.before.before.before.before.before.before.before.before.before.before.before.before.before.before.before.before.before.args.self.limit
 fits-limit c = search rules
 
-fits-unicast : (c : tie.After-struct-told12) → SFits w64 c.before.before.before.before.before.before.before.before.before.before.before.before.before.before.before.before.before.before.before.before.before.before.before.before.args.self.unicast
-fits-unicast c = let g = c.struct-told12.given.1.1.1.1.1.1 in search rules
-
 returns : tie.Need-returns
 returns c =
     rw (
-      rw (back (fits-window c.before.before.before.before.before.before.before.before.before.before.before.before.before.before.before.before.before.before.before.before.before.before.before.before)) at c.before.before.before.before.before.before.before.before.before.before.before.before.before.before.before.before.before.before.before.before.before.before.before.narrow.ensures,
-      rw (back (fits-minimum c.before.before.before.before.before.before.before.before.before.before.before.before.before.before.before.before.before.before.before.before.before.before)) at c.before.before.before.before.before.before.before.before.before.before.before.before.before.before.before.before.before.before.before.before.before.narrow2.ensures,
-      rw (back (fits-holdoff c.before.before.before.before.before.before.before.before.before.before.before.before.before.before.before.before.before.before.before.before)) at c.before.before.before.before.before.before.before.before.before.before.before.before.before.before.before.before.before.before.before.narrow3.ensures,
-      rw (back (fits-tolerance c.before.before.before.before.before.before.before.before.before.before.before.before.before.before.before.before.before.before)) at c.before.before.before.before.before.before.before.before.before.before.before.before.before.before.before.before.before.narrow4.ensures,
-      rw (back (fits-spike c.before.before.before.before.before.before.before.before.before.before.before.before.before.before.before.before)) at c.before.before.before.before.before.before.before.before.before.before.before.before.before.before.before.narrow5.ensures,
-      rw (back (fits-jump c.before.before.before.before.before.before.before.before.before.before.before.before.before.before)) at c.before.before.before.before.before.before.before.before.before.before.before.before.before.narrow6.ensures,
-      rw (back (fits-announce c.before.before.before.before.before.before.before.before.before.before.before)) at c.before.before.before.before.before.before.before.before.before.before.narrow7.ensures,
-      rw (back (fits-sync c.before.before.before.before.before.before.before.before.before)) at c.before.before.before.before.before.before.before.before.narrow8.ensures,
-      rw (back (fits-kp c.before.before.before.before.before.before.before)) at c.before.before.before.before.before.before.narrow9.ensures,
-      rw (back (fits-ki c.before.before.before.before.before)) at c.before.before.before.before.narrow10.ensures,
-      rw (back (fits-limit c.before.before.before)) at c.before.before.narrow11.ensures,
-      rw (back (fits-unicast c.before)) at c.narrow12.ensures,
-      to_z_pos w32 {n = min 2_147_483_647 (up c.before.before.before.before.before.before.before.before.before.before.before.before.before.before.before.before.before.before.before.before.before.before.before.before.before.args.self.limit)} (omega arith),
+      rw (back (fits-window c.before.before.before.before.before.before.before.before.before.before.before.before.before.before.before.before.before.before.before.before.before.before)) at c.before.before.before.before.before.before.before.before.before.before.before.before.before.before.before.before.before.before.before.before.before.narrow.ensures,
+      rw (back (fits-minimum c.before.before.before.before.before.before.before.before.before.before.before.before.before.before.before.before.before.before.before.before)) at c.before.before.before.before.before.before.before.before.before.before.before.before.before.before.before.before.before.before.before.narrow2.ensures,
+      rw (back (fits-holdoff c.before.before.before.before.before.before.before.before.before.before.before.before.before.before.before.before.before.before)) at c.before.before.before.before.before.before.before.before.before.before.before.before.before.before.before.before.before.narrow3.ensures,
+      rw (back (fits-tolerance c.before.before.before.before.before.before.before.before.before.before.before.before.before.before.before.before)) at c.before.before.before.before.before.before.before.before.before.before.before.before.before.before.before.narrow4.ensures,
+      rw (back (fits-spike c.before.before.before.before.before.before.before.before.before.before.before.before.before.before)) at c.before.before.before.before.before.before.before.before.before.before.before.before.before.narrow5.ensures,
+      rw (back (fits-jump c.before.before.before.before.before.before.before.before.before.before.before.before)) at c.before.before.before.before.before.before.before.before.before.before.before.narrow6.ensures,
+      rw (back (fits-announce c.before.before.before.before.before.before.before.before.before)) at c.before.before.before.before.before.before.before.before.narrow7.ensures,
+      rw (back (fits-sync c.before.before.before.before.before.before.before)) at c.before.before.before.before.before.before.narrow8.ensures,
+      rw (back (fits-kp c.before.before.before.before.before)) at c.before.before.before.before.narrow9.ensures,
+      rw (back (fits-ki c.before.before.before)) at c.before.before.narrow10.ensures,
+      rw (back (fits-limit c.before)) at c.narrow11.ensures,
+      to_z_pos w32 {n = min 2_147_483_647 (up c.before.before.before.before.before.before.before.before.before.before.before.before.before.before.before.before.before.before.before.before.before.before.before.args.self.limit)} (omega arith),
     )
 
 pub narrowed-spec : {M : Type 1} → statement M
@@ -147,5 +140,4 @@ narrowed-spec =
     cast-t14
     narrow-requires-11
     cast-t15
-    narrow-requires-12
     returns)

@@ -34,12 +34,6 @@ between-requires-5 c κs = search rules
 both-requires-4 : tie.Need-both-requires-4
 both-requires-4 c κs = search rules
 
-between-requires-6 : tie.Need-between-requires-6
-between-requires-6 c κs = search rules
-
-both-requires-5 : tie.Need-both-requires-5
-both-requires-5 c κs = search rules
-
 fits-announce : (c : tie.After-struct-told) → SFits w64 c.before.args.self.announce
 fits-announce c = search rules
 
@@ -55,24 +49,19 @@ fits-ki c = search rules
 fits-limit : (c : tie.After-struct-told5) → SFits w64 c.before.before.before.before.before.before.before.before.before.before.before.before.args.self.limit
 fits-limit c = search rules
 
-fits-unicast : (c : tie.After-struct-told6) → SFits w64 c.before.before.before.before.before.before.before.before.before.before.before.before.before.before.before.args.self.unicast
-fits-unicast c = let g = c.struct-told6.given.1.1.1.1.1.1 in search rules
-
 returns : tie.Need-returns
 unfolding steering_fits
 returns c =
     rw (
-      c.both5.ensures,
-      c.before.before.before.both4.ensures,
-      c.before.before.before.before.before.before.both3.ensures,
-      c.before.before.before.before.before.before.before.both2.ensures,
-      c.before.before.before.before.before.before.before.before.before.before.before.before.both.ensures,
-      rw (back (fits-announce c.before.before.before.before.before.before.before.before.before.before.before.before.before.before.before.before)) at c.before.before.before.before.before.before.before.before.before.before.before.before.before.before.before.between.ensures,
-      rw (back (fits-sync c.before.before.before.before.before.before.before.before.before.before.before.before.before.before)) at c.before.before.before.before.before.before.before.before.before.before.before.before.before.between2.ensures,
-      rw (back (fits-kp c.before.before.before.before.before.before.before.before.before.before.before)) at c.before.before.before.before.before.before.before.before.before.before.between3.ensures,
-      rw (back (fits-ki c.before.before.before.before.before.before.before.before.before)) at c.before.before.before.before.before.before.before.before.between4.ensures,
-      rw (back (fits-limit c.before.before.before.before.before)) at c.before.before.before.before.between5.ensures,
-      rw (back (fits-unicast c.before.before)) at c.before.between6.ensures,
+      c.both4.ensures,
+      c.before.before.before.both3.ensures,
+      c.before.before.before.before.both2.ensures,
+      c.before.before.before.before.before.before.before.before.before.both.ensures,
+      rw (back (fits-announce c.before.before.before.before.before.before.before.before.before.before.before.before.before)) at c.before.before.before.before.before.before.before.before.before.before.before.before.between.ensures,
+      rw (back (fits-sync c.before.before.before.before.before.before.before.before.before.before.before)) at c.before.before.before.before.before.before.before.before.before.before.between2.ensures,
+      rw (back (fits-kp c.before.before.before.before.before.before.before.before)) at c.before.before.before.before.before.before.before.between3.ensures,
+      rw (back (fits-ki c.before.before.before.before.before.before)) at c.before.before.before.before.before.between4.ensures,
+      rw (back (fits-limit c.before.before)) at c.before.between5.ensures,
     )
 
 pub steering-fits-spec : {M : Type 1} → statement M
@@ -88,6 +77,4 @@ steering-fits-spec =
     both-requires-3
     between-requires-5
     both-requires-4
-    between-requires-6
-    both-requires-5
     returns)

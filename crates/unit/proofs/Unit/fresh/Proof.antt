@@ -15,12 +15,8 @@ fresh-requires-2 c κs = search rules
 fresh-requires-3 : tie.Need-fresh-requires-3
 fresh-requires-3 c κs = search rules
 
-fresh-requires-4 : tie.Need-fresh-requires-4
-fresh-requires-4 c κs = search rules
-
 returns : tie.Need-returns
-returns c =
-    rw (c.fresh4.ensures, c.before.fresh3.ensures, c.before.before.fresh2.ensures, c.before.before.before.fresh.ensures, c.before.before.before.before.before.with.ensures)
+returns c = rw (c.fresh3.ensures, c.before.fresh2.ensures, c.before.before.fresh.ensures, c.before.before.before.before.with.ensures)
 
 pub fresh-spec : {M : Type 1} → statement M
-fresh-spec = tie.close (tie.spec with-requires fresh-requires fresh-requires-2 fresh-requires-3 fresh-requires-4 returns)
+fresh-spec = tie.close (tie.spec with-requires fresh-requires fresh-requires-2 fresh-requires-3 returns)

@@ -18,22 +18,19 @@ enum_told : tie.Need-enum-told
 enum_told c = search rules
 
 returns : tie.Need-returns
-returns c = let s = c.before.before.before.before.before.before.args in sym (master-bars s.core.settings (stays_of s.core) s.now s.header s.field s.ungranted Clear (sym c.before.before.before.enum_told.given.1 ∙ c.before.before.before.before.before.barred.ensures) ∙ rw (ne_eqb _ _ c.if1.true))
+returns c = let s = c.before.before.before.before.before.before.args in sym (master-bars s.core.settings (stays_of s.core) s.now s.header s.field Clear (sym c.before.before.before.enum_told.given.1 ∙ c.before.before.before.before.before.barred.ensures) ∙ rw (ne_eqb _ _ c.if1.true))
 
 is-master-requires : tie.Need-is-master-requires
 is-master-requires c κs = search rules
 
-grant-requires : tie.Need-grant-requires
-grant-requires c κs = search rules
-
 returns-2 : tie.Need-returns-2
-returns-2 c = let k = c.before.before.before.before in let s = k.before.before.before.before.before.before.args in c.grant.ensures ∙ sym (master-bars s.core.settings (stays_of s.core) s.now s.header s.field s.ungranted Clear (sym k.before.before.before.enum_told.given.1 ∙ k.before.before.before.before.before.barred.ensures) ∙ rw (eq-eqb _ _ k.if1.false, sym c.before.before.is-master.ensures ∙ c.before.if2.true))
+returns-2 c = let k = c.before.before.before in let s = k.before.before.before.before.before.before.args in sym (master-bars s.core.settings (stays_of s.core) s.now s.header s.field Clear (sym k.before.before.before.enum_told.given.1 ∙ k.before.before.before.before.before.barred.ensures) ∙ rw (eq-eqb _ _ k.if1.false, sym c.before.is-master.ensures ∙ c.if2.true))
 
 returns-3 : tie.Need-returns-3
-returns-3 c = let s = c.before.before.before.before.args in sym (master-bars s.core.settings (stays_of s.core) s.now s.header s.field s.ungranted (Barred _) (sym c.before.number.given.1 ∙ c.before.before.before.barred.ensures))
+returns-3 c = let s = c.before.before.before.before.args in sym (master-bars s.core.settings (stays_of s.core) s.now s.header s.field (Barred _) (sym c.before.number.given.1 ∙ c.before.before.before.barred.ensures))
 
 returns-4 : tie.Need-returns-4
-returns-4 c = let k = c.before.before.before in let s = k.before.before.before.before.before.before.args in sym (master-bars s.core.settings (stays_of s.core) s.now s.header s.field s.ungranted Clear (sym k.before.before.before.enum_told.given.1 ∙ k.before.before.before.before.before.barred.ensures) ∙ rw (eq-eqb _ _ k.if1.false, sym c.before.is-master.ensures ∙ c.if2.false))
+returns-4 c = let k = c.before.before.before in let s = k.before.before.before.before.before.before.args in sym (master-bars s.core.settings (stays_of s.core) s.now s.header s.field Clear (sym k.before.before.before.enum_told.given.1 ∙ k.before.before.before.before.before.barred.ensures) ∙ rw (eq-eqb _ _ k.if1.false, sym c.before.is-master.ensures ∙ c.if2.false))
 
 pub from-master-spec : {M : Type 1} → statement M
 from-master-spec =
@@ -44,7 +41,6 @@ from-master-spec =
     enum_told
     returns
     is-master-requires
-    grant-requires
     returns-2
     returns-3
     returns-4)

@@ -25,10 +25,10 @@ exchanged-requires : tie.Need-exchanged-requires
 exchanged-requires c κs = search rules
 
 returns : tie.Need-returns
-returns c = let s = c.before.before.before.before.before.before.args in rw (sym (heard-by s.core.settings (stays_of s.core) (progress_of s.core s.servo) s.now s.t2 s.ungranted s.m.header s.m.body)) (rw (sym c.before.before.before.before.message-barred.ensures ∙ c.before.before.number.given.1) c.refuse.ensures)
+returns c = let s = c.before.before.before.before.before.before.args in rw (sym (heard-by s.core.settings (stays_of s.core) (progress_of s.core s.servo) s.now s.t2 s.m.header s.m.body)) (rw (sym c.before.before.before.before.message-barred.ensures ∙ c.before.before.number.given.1) c.refuse.ensures)
 
 returns-2 : tie.Need-returns-2
-returns-2 c = let s = c.before.before.before.before.before.before.before.args in rw (sym (heard-by s.core.settings (stays_of s.core) (progress_of s.core s.servo) s.now s.t2 s.ungranted s.m.header s.m.body)) (rw (sym c.before.before.before.before.before.message-barred.ensures ∙ c.before.before.before.enum_told.given.1) (rw c.before.hand.ensures at c.exchanged.ensures))
+returns-2 c = let s = c.before.before.before.before.before.before.before.args in rw (sym (heard-by s.core.settings (stays_of s.core) (progress_of s.core s.servo) s.now s.t2 s.m.header s.m.body)) (rw (sym c.before.before.before.before.before.message-barred.ensures ∙ c.before.before.before.enum_told.given.1) (rw c.before.hand.ensures at c.exchanged.ensures))
 
 pub heard-spec : {M : Type 1} → statement M
 heard-spec =

@@ -42,7 +42,7 @@ returns-3 : tie.Need-returns-3
 returns-3 c = rw c.before.before.before.body3.given.1 (rw c.before.field2.ensures at c.from-master3.ensures)
 
 returns-4 : tie.Need-returns-4
-returns-4 c = let s = c.before.args in unheard-bars s.core.settings (stays_of s.core) s.now s.t2 s.ungranted s.header s.body c.match.keys4
+returns-4 c = let s = c.before.args in unheard-bars s.core.settings (stays_of s.core) s.now s.t2 s.header s.body c.match.keys4
 
 pub message-barred-spec : {M : Type 1} → statement M
 message-barred-spec =

@@ -26,13 +26,9 @@ returns-5 c = rw c.match.keys5
 
 returns-6 : tie.Need-returns-6
 unfolding fixed_length_of
-returns-6 c = rw c.match.keys6
-
-returns-7 : tie.Need-returns-7
-unfolding fixed_length_of
-returns-7 c =
+returns-6 c =
     let r = c.match.rest in
-    simp (ne_eqb _ _ r.0.0.0.0.0.1, ne_eqb _ _ r.0.0.0.0.1, ne_eqb _ _ r.0.0.0.1, ne_eqb _ _ r.0.0.1, ne_eqb _ _ r.0.1, ne_eqb _ _ r.1)
+    simp (ne_eqb _ _ r.0.0.0.0.1, ne_eqb _ _ r.0.0.0.1, ne_eqb _ _ r.0.0.1, ne_eqb _ _ r.0.1, ne_eqb _ _ r.1)
 
 pub fixed-length-spec : {M : Type 1} → statement M
-fixed-length-spec = tie.close (tie.spec returns returns-2 returns-3 returns-4 returns-5 returns-6 returns-7)
+fixed-length-spec = tie.close (tie.spec returns returns-2 returns-3 returns-4 returns-5 returns-6)

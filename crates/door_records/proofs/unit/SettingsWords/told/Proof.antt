@@ -10,7 +10,7 @@ watch-requires : tie.Need-watch-requires
 watch-requires c κs = search rules
 
 returns : tie.Need-returns
-returns c = rw (c.before.watch.ensures, c.before.before.own.ensures)
+returns c = rw (c.watch.ensures, c.before.own.ensures)
 
 pub told-spec : {M : Type 1} → statement M
 told-spec = tie.close (tie.spec own-requires watch-requires returns)

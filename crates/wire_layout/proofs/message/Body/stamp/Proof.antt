@@ -1,4 +1,4 @@
--- `stamp` meets its contract: each arm gives its timestamp, the last one the zero stamp.
+-- `stamp` meets its contract: each arm gives its timestamp.
 use borrow.Author.Rules.{rules}
 use Rattle.wire_layout.proofs.message.Body.stamp.Statement.{statement}
 use Rattle.wire_layout.proofs.message.Body.stamp.Tie as tie
@@ -18,12 +18,6 @@ enum-known-self-4 c = search rules
 enum-known-self-5 : tie.Need-enum-known-self-5
 enum-known-self-5 c = search rules
 
-enum_told : tie.Need-enum-told
-enum_told c = search rules
-
-zero-requires : tie.Need-zero-requires
-zero-requires c κs = search rules
-
 returns : tie.Need-returns
 returns c = search rules
 
@@ -39,9 +33,6 @@ returns-4 c = search rules
 returns-5 : tie.Need-returns-5
 returns-5 c = rw c.before.self5.given.1
 
-returns-6 : tie.Need-returns-6
-returns-6 c = search rules
-
 pub stamp-spec : {M : Type 1} → statement M
 stamp-spec =
     tie.close
@@ -51,11 +42,8 @@ stamp-spec =
     enum-known-self-3
     enum-known-self-4
     enum-known-self-5
-    enum_told
-    zero-requires
     returns
     returns-2
     returns-3
     returns-4
-    returns-5
-    returns-6)
+    returns-5)

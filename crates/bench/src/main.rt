@@ -1,4 +1,6 @@
 // The bench: reads a list of calls on standard input and writes one line of answer to each.
+#![tactic(auto)]
+
 ghost use Rattle.std.specs.Prelude.{◌<◌, length as List·length};
 
 use bench_calls::call_of;
@@ -39,7 +41,7 @@ fn line_end(mut desk: Desk, line: &[u8], length: usize, out: &mut Out) -> Desk {
     next
 }
 
-#[derive(Drop)]
+#[derive(Clone, Copy)]
 pub struct Gathered {
     pub length: usize,
     pub next: usize,

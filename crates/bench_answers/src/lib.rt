@@ -1,4 +1,6 @@
 // What the unit answers, as text: one function for each group of answers.
+#![tactic(auto)]
+
 ghost use Rattle.std.specs.Prelude.{◌≤◌};
 
 use bench_text::messages::port_text;

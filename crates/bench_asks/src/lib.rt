@@ -1,4 +1,6 @@
 // What a line asks of the unit: decided without it.
+#![tactic(auto)]
+
 ghost use Rattle.std.specs.Prelude.{◌≤◌, ◌≡◌, false, length};
 ghost use Rattle.bench_asks.specs.Asking.{asks_unit};
 
@@ -8,7 +10,7 @@ use rules_settings::{Given, Set, Settings};
 use unit_core::calls::Call as UnitCall;
 use unit_handing::{Asked, receive, time};
 
-#[derive(Drop)]
+#[derive(Clone, Copy)]
 pub enum Asks {
     Bad, // the line is no call
     NoUnit, // there is no unit yet

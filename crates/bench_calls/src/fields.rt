@@ -6,31 +6,31 @@ use numbers::stamp::Stamp;
 use wire_layout::kinds;
 use wire_layout::message::{Body, Header, Offer, Port};
 
-#[derive(Drop)]
+#[derive(Clone, Copy)]
 pub struct PortWords {
     pub port: Port,
     pub next: usize,
 }
 
-#[derive(Drop)]
+#[derive(Clone, Copy)]
 pub struct StampWords {
     pub stamp: Stamp,
     pub next: usize,
 }
 
-#[derive(Drop)]
+#[derive(Clone, Copy)]
 pub struct HeaderWords {
     pub header: Header,
     pub next: usize,
 }
 
-#[derive(Drop)]
+#[derive(Clone, Copy)]
 pub struct OfferWords {
     pub offer: Offer,
     pub next: usize,
 }
 
-#[derive(Drop)]
+#[derive(Clone, Copy)]
 pub struct BodyWords {
     pub body: Body,
     pub next: usize,

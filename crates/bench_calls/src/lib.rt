@@ -1,4 +1,6 @@
 // A line of the bench's page becomes a call: one function for each call word, which reads the words behind it into typed values.
+#![tactic(auto)]
+
 mod fields;
 pub mod to_unit;
 mod words;
@@ -15,7 +17,7 @@ use words::{begins, number, octets_at, unsigned8};
 pub type Store = [u8; 131_072];
 
 // A call's octets are the first of the store, as many as it says.
-#[derive(Drop)]
+#[derive(Clone, Copy)]
 pub enum Call {
     Bad,
     Lend(u8),

@@ -10,7 +10,7 @@ use rules_settings::Given;
 
 // What a line tells the unit, as it is written: no octets are read yet and no setting is tested. A Receive's octets are the first of the
 // store, as many as it says.
-#[derive(Drop)]
+#[derive(Clone, Copy)]
 pub enum ToUnit {
     None,
     Make(Given),

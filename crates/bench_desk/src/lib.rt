@@ -1,4 +1,6 @@
 // The desk: what is kept from line to line, and what is answered to each call.
+#![tactic(auto)]
+
 ghost use Rattle.std.specs.Prelude.{◌≡◌, ◌≤◌};
 
 use bench_answers::{answer_text, refused};
@@ -10,7 +12,7 @@ use rules_settings::Settings;
 use unit::{Stepped, Unit, request_into};
 use unit_handing::serve;
 
-#[derive(Drop)]
+#[derive(Clone, Copy)]
 pub struct Desk {
     pub length: usize, // of a line that is not yet whole
     pub lent: u8, // how many records of the table later calls are lent

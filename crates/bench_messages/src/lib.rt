@@ -1,4 +1,6 @@
 // What is answered to `read` and `write`, which need no unit.
+#![tactic(auto)]
+
 ghost use Rattle.std.specs.Prelude.{◌≤◌};
 
 use bench_answers::refused;

@@ -1,5 +1,7 @@
 // Text, gathered in a lent buffer. Each function puts its text behind the `at` octets that are there and answers how many there are
 // then, never more than the buffer has; where the buffer is full it is written out first.
+#![tactic(auto)]
+
 pub mod messages;
 
 ghost use Rattle.std.specs.Prelude.{◌≡◌, ◌≤◌, ◌<◌};

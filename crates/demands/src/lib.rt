@@ -1,1 +1,2 @@
 // What is demanded of the whole, as theorems: proofs/Demands.antt. Definitions and theorems; the code is the crates below.
+#![tactic(auto)]

@@ -1,4 +1,6 @@
 // The door for the card's firmware: one function for each call, which works on what it is lent where it lies. All exports are here, under one prefix.
+#![tactic(auto)]
+
 ghost use Rattle.std.specs.Prelude.{◌≡◌, length};
 ghost use Rattle.wire_layout.specs.Reading.{read_of};
 ghost use Rattle.unit_measuring.specs.Frame.{frame_after};

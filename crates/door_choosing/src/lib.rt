@@ -1,4 +1,6 @@
 // The steps of the door that choose, for an Announce and the bare time call: what is asked of each of the five records, the one stored, the choice.
+#![tactic(auto)]
+
 ghost use Rattle.std.specs.Prelude.{◌≡◌, cond, eqb};
 ghost use Rattle.rules_masters.specs.Records.{interval_of};
 ghost use Rattle.rules_masters.specs.Inner.{candidate_of, best_of};
@@ -24,14 +26,14 @@ use unit_choosing::time_barred;
 use wire_layout::message::Message;
 
 // What an Announce asks of one record.
-#[derive(Drop)]
+#[derive(Clone, Copy)]
 pub struct Looked {
     pub standing: Standing,
     pub candidate: Candidate,
 }
 
 // The place for an Announce; or, where it is barred, the number of its refusal.
-#[derive(Drop)]
+#[derive(Clone, Copy)]
 pub struct Seated {
     pub barred: bool,
     pub number: u8,
@@ -40,7 +42,7 @@ pub struct Seated {
 }
 
 // What the choice leaves.
-#[derive(Drop)]
+#[derive(Clone, Copy)]
 pub struct Held {
     pub answer: AnswerWords,
     pub state: StateWords,

@@ -9,7 +9,7 @@ use unit_core::Core;
 use unit_core::run::Fresh;
 
 #[repr(C)]
-#[derive(Drop)]
+#[derive(Clone, Copy)]
 pub struct Made {
     pub refused: u64, // 0, or SETTINGS
     pub unit: UnitWords,

@@ -10,7 +10,7 @@ use numbers::refusal::Refusal;
 use rules_masters::record::Record;
 use wire_layout::message::{Body, Message, Read};
 
-#[derive(Drop)]
+#[derive(Clone, Copy)]
 pub struct Received {
     pub message: Message,
     pub number: u8, // of the refusal, where it is barred

@@ -10,7 +10,7 @@ use rules_watch::Answer;
 use rules_watch::window::Head;
 
 // What a second pulse leaves beside the columns.
-#[derive(Drop)]
+#[derive(Clone, Copy)]
 pub struct Ticked {
     pub answer: AnswerWords,
     pub head: Head,

@@ -11,7 +11,7 @@ use door_words::answers::AnswerWords;
 use rules_servo::Servo;
 use unit_core::run::{Fresh, Run, one_more};
 
-#[derive(Drop)]
+#[derive(Clone, Copy)]
 pub struct Emptied {
     pub halves: HalvesWords,
     pub delays: DelaysWords,

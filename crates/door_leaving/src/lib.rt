@@ -1,4 +1,6 @@
 // What a call leaves of the parts that it is lent, stored where they lie: at a wipe, after a choice, an Announce, a message of the exchange, a t3, a pulse.
+#![tactic(auto)]
+
 ghost use Rattle.std.specs.Prelude.{◌≡◌, []};
 ghost use Rattle.rules_watch.specs.Watch.{fresh_watch};
 ghost use Rattle.door_core.specs.Wiping.{emptied_of};

@@ -17,7 +17,7 @@ use rules_exchange::{Accepted, Exchange};
 use unit_measuring::asking::request_barred;
 use wire_frames::write_frame;
 
-#[derive(Drop)]
+#[derive(Clone, Copy)]
 pub struct Requested {
     pub answer: AnswerWords,
     pub state: StateWords,

@@ -24,7 +24,7 @@ use unit_measuring::hearing::{message_barred, two_step};
 use wire_layout::message::{Body, Message};
 
 // A refusal, or what is to be stored and said.
-#[derive(Drop)]
+#[derive(Clone, Copy)]
 pub struct Told {
     pub halves: HalvesWords,
     pub delays: DelaysWords,

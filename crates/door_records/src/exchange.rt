@@ -10,7 +10,7 @@ use rules_exchange::halves::{Request, Sync};
 use rules_exchange::{Exchange, Last};
 
 #[repr(C)]
-#[derive(Drop)]
+#[derive(Clone, Copy)]
 pub struct SyncWords {
     pub t1: StampWords,
     pub t2: StampWords,
@@ -23,7 +23,7 @@ pub struct SyncWords {
 }
 
 #[repr(C)]
-#[derive(Drop)]
+#[derive(Clone, Copy)]
 pub struct RequestWords {
     pub t3: StampWords,
     pub sequence: u16,
@@ -33,7 +33,7 @@ pub struct RequestWords {
 }
 
 #[repr(C)]
-#[derive(Drop)]
+#[derive(Clone, Copy)]
 pub struct LastWords {
     pub seconds: u64,
     pub nanoseconds: u32,
@@ -41,7 +41,7 @@ pub struct LastWords {
 }
 
 #[repr(C)]
-#[derive(Drop)]
+#[derive(Clone, Copy)]
 pub struct HalvesWords {
     pub sync: SyncWords,
     pub request: RequestWords,
@@ -49,7 +49,7 @@ pub struct HalvesWords {
 }
 
 #[repr(C)]
-#[derive(Drop)]
+#[derive(Clone, Copy)]
 pub struct DelaysWords {
     pub five: [u32; 5],
     pub used: u32,

@@ -7,7 +7,7 @@ use rules_masters::record::{Announce, Record};
 use wire_layout::message::{Header, Offer, Port};
 
 #[repr(C)]
-#[derive(Drop)]
+#[derive(Clone, Copy)]
 pub struct HeaderWords {
     pub correction: i64,
     pub clock: u64, // of the source
@@ -24,7 +24,7 @@ pub struct HeaderWords {
 }
 
 #[repr(C)]
-#[derive(Drop)]
+#[derive(Clone, Copy)]
 pub struct OfferWords {
     pub grandmaster: u64,
     pub utc: i16,
@@ -40,7 +40,7 @@ pub struct OfferWords {
 }
 
 #[repr(C)]
-#[derive(Drop)]
+#[derive(Clone, Copy)]
 pub struct MasterWords {
     pub header: HeaderWords,
     pub offer: OfferWords,

@@ -5,7 +5,7 @@ ghost use Rattle.door_records.specs.Parts.{stamp_in, stamp_words};
 use numbers::stamp::Stamp;
 
 #[repr(C)]
-#[derive(Drop)]
+#[derive(Clone, Copy)]
 pub struct StampWords {
     pub seconds: u64,
     pub nanoseconds: u32,

@@ -13,7 +13,7 @@ use unit_core::{Core, Domain};
 use wire_layout::message::Port;
 
 #[repr(C)]
-#[derive(Drop)]
+#[derive(Clone, Copy)]
 pub struct ChosenWords {
     pub clock: u64,
     pub number: u16,
@@ -22,7 +22,7 @@ pub struct ChosenWords {
 }
 
 #[repr(C)]
-#[derive(Drop)]
+#[derive(Clone, Copy)]
 pub struct SettingsWords {
     pub clock: u64, // of the own port
     pub limit: Ppb,
@@ -42,7 +42,7 @@ pub struct SettingsWords {
 }
 
 #[repr(C)]
-#[derive(Drop)]
+#[derive(Clone, Copy)]
 pub struct StateWords {
     pub now: u64,
     pub at: u64,
@@ -54,7 +54,7 @@ pub struct StateWords {
 }
 
 #[repr(C)]
-#[derive(Drop)]
+#[derive(Clone, Copy)]
 pub struct UnitWords {
     pub settings: SettingsWords,
     pub state: StateWords,

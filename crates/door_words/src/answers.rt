@@ -14,7 +14,7 @@ use unit_core::calls::{PortState, Shows};
 
 // 104 octets, none of them unnamed.
 #[repr(C)]
-#[derive(Drop)]
+#[derive(Clone, Copy)]
 pub struct AnswerWords {
     pub code: u8, // of the answer, as specs/Answers.antt and what it cites list them
     pub refused: u8, // the refusal's number: rule 3.N

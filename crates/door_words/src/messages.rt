@@ -16,7 +16,7 @@ use wire_layout::message::{Body, Header, Message, Offer, Port, Written};
 use wire_octets::u16_at;
 
 #[repr(C)]
-#[derive(Drop)]
+#[derive(Clone, Copy)]
 pub struct MessageWords {
     pub refused: u8, // 0, or the number of the refusal: then all else is 0
     pub kind: u8,
@@ -29,14 +29,14 @@ pub struct MessageWords {
 }
 
 // The message that the words mean, or why they mean none.
-#[derive(Drop)]
+#[derive(Clone, Copy)]
 pub enum Handed {
     Got(Message),
     Barred(Refusal),
 }
 
 #[repr(C)]
-#[derive(Drop)]
+#[derive(Clone, Copy)]
 pub struct WrittenWords {
     pub refused: u8, // 0, or the number of the refusal
     pub length: usize, // of the message

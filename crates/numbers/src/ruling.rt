@@ -2,7 +2,7 @@
 use crate::refusal::Refusal;
 
 // The first refusal that is due, if one is.
-#[derive(Drop)]
+#[derive(Clone, Copy)]
 pub enum Ruling {
     Clear,
     Barred(Refusal),

@@ -1,4 +1,6 @@
 // The delays: the last five accepted, the one last used, and the filter over them.
+#![tactic(auto)]
+
 ghost use Rattle.std.specs.Prelude.{◌≡◌, ◌+◌, ◌≤◌, min, take};
 ghost use Rattle.rules_delays.specs.Median.{count_below, lower_middle, middling};
 ghost use Rattle.numbers.specs.Integers.{distance_of};
@@ -6,7 +8,7 @@ ghost use Rattle.rules_delays.specs.Delays.{fresh_delays, path_of, filtered};
 
 // Delays in ns. One that is accepted is at most 9,999,999.
 #[repr(C)]
-#[derive(Drop)]
+#[derive(Clone, Copy)]
 pub struct Delays {
     pub five: [u32; 5], // the last five accepted, newest first
     pub count: u8, // how many of them there are since the wipe

@@ -6,7 +6,7 @@ ghost use Rattle.rules_exchange.specs.Inner.{brief_with};
 use crate::Accepted;
 use numbers::units::Nanoseconds;
 
-#[derive(Drop)]
+#[derive(Clone, Copy)]
 pub struct Brief {
     pub code: u8, // at the door
     pub wipes: bool,

@@ -9,7 +9,7 @@ use rules_measure::{Times, measured};
 
 // The Sync held, if any. Corrections stay uncut, in 1/65,536 ns.
 #[repr(C)]
-#[derive(Drop)]
+#[derive(Clone, Copy)]
 pub struct Sync {
     pub held: bool,
     pub known: bool, // t1 is
@@ -22,7 +22,7 @@ pub struct Sync {
 
 // The request pending, if any.
 #[repr(C)]
-#[derive(Drop)]
+#[derive(Clone, Copy)]
 pub struct Request {
     pub pending: bool,
     pub given: bool, // t3 is

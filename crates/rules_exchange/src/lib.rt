@@ -1,5 +1,7 @@
 // The exchange: what it holds, and how it answers. What each event comes to is in said.
 // An answer that wipes (Back, PathWiped, Step) says so and leaves the emptying to the caller: a wipe empties more than the exchange.
+#![tactic(auto)]
+
 pub mod brief;
 pub mod halves;
 pub mod refusals;
@@ -17,14 +19,14 @@ use said::Said;
 
 // The last local stamp: the last t2 or t3 taken since the wipe.
 #[repr(C)]
-#[derive(Drop)]
+#[derive(Clone, Copy)]
 pub struct Last {
     pub taken: bool,
     pub stamp: Stamp,
 }
 
 #[repr(C)]
-#[derive(Drop)]
+#[derive(Clone, Copy)]
 pub struct Exchange {
     pub sync: Sync,
     pub request: Request,
@@ -35,20 +37,20 @@ pub struct Exchange {
 }
 
 // An accepted measurement, in ns.
-#[derive(Drop)]
+#[derive(Clone, Copy)]
 pub struct Accepted {
     pub delay: Nanoseconds,
     pub used: Nanoseconds,
     pub offset: Nanoseconds,
 }
 
-#[derive(Drop)]
+#[derive(Clone, Copy)]
 pub enum Answer {
     Refused(Refusal),
     Says(Said),
 }
 
-#[derive(Drop)]
+#[derive(Clone, Copy)]
 pub struct Answered {
     pub answer: Answer,
     pub exchange: Exchange,

@@ -16,7 +16,7 @@ use numbers::units::Nanoseconds;
 use rules_measure::{Sum, Times, huge, is_step, judge_sum};
 use wire_layout::message::Port;
 
-#[derive(Drop)]
+#[derive(Clone, Copy)]
 pub enum Said {
     Held, // the Sync is held
     Paired, // the Follow_Up gave t1

@@ -12,7 +12,7 @@ use numbers::ruling::Ruling;
 use wire_layout::message::Port;
 
 // What became of an Announce: its refusal, or the place whose record it renewed, or the place that its new sender took.
-#[derive(Drop)]
+#[derive(Clone, Copy)]
 pub enum Answer {
     Refused(Refusal),
     Renewed(usize),
@@ -20,7 +20,7 @@ pub enum Answer {
 }
 
 // The answer, and the table after it.
-#[derive(Drop)]
+#[derive(Clone, Copy)]
 pub struct Admitted {
     pub answer: Answer,
     pub table: Table,

@@ -5,7 +5,7 @@ ghost use Rattle.rules_masters.specs.Inner.{candidate_of};
 use crate::record::Record;
 
 // What its last Announce says that the comparison asks for, and whether it is qualified. The widest fields come first: no octet lies between them.
-#[derive(Drop)]
+#[derive(Clone, Copy)]
 pub struct Candidate {
     pub grandmaster: u64,
     pub clock: u64, // of the sender

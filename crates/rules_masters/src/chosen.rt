@@ -7,14 +7,14 @@ use wire_layout::message::Port;
 
 // None, or the master with this sender.
 #[repr(C)]
-#[derive(Drop)]
+#[derive(Clone, Copy)]
 pub struct Chosen {
     pub some: bool,
     pub sender: Port,
 }
 
 // What the choice says: the master as before, or still none; or a new or lost one, which wipes (rule 10.1).
-#[derive(Drop)]
+#[derive(Clone, Copy)]
 pub enum Decision {
     Same(Chosen),
     Changed(Chosen),

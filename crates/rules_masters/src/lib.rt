@@ -1,4 +1,6 @@
 // The masters: the table of five records, their comparison, the admission of an Announce and the choice.
+#![tactic(auto)]
+
 pub mod admission;
 pub mod candidate;
 pub mod choice;

@@ -7,7 +7,7 @@ use wire_layout::message::{Header, Offer, Port};
 
 // The fixed part of an Announce with every field, so that its 64 octets can be written again. The sender is header.source.
 #[repr(C)]
-#[derive(Drop)]
+#[derive(Clone, Copy)]
 pub struct Announce {
     pub header: Header,
     pub stamp: Stamp,
@@ -15,7 +15,7 @@ pub struct Announce {
 }
 
 #[repr(C)]
-#[derive(Drop)]
+#[derive(Clone, Copy)]
 pub struct Record {
     pub announce: Announce,
     pub held: u64, // how many of the two arrivals are held; over 2 counts as 2

@@ -7,7 +7,7 @@ use numbers::ruling::Ruling;
 use wire_layout::message::Port;
 
 // Of one record, to an Announce of this sender with this sequenceId.
-#[derive(Drop)]
+#[derive(Clone, Copy)]
 pub struct Standing {
     pub live: bool,
     pub known: bool, // live, and of this sender
@@ -15,7 +15,7 @@ pub struct Standing {
 }
 
 // The place for an Announce, where its ruling is clear.
-#[derive(Drop)]
+#[derive(Clone, Copy)]
 pub struct Seat {
     pub ruling: Ruling,
     pub at: usize, // 0 to 4 in any case

@@ -5,7 +5,7 @@ ghost use Rattle.rules_masters.specs.Places.{fresh_table};
 use crate::record::Record;
 
 #[repr(C)]
-#[derive(Drop)]
+#[derive(Clone, Copy)]
 pub struct Table {
     pub records: [Record; 5],
 }

@@ -1,4 +1,6 @@
 // One measurement, exact over all 48 bits of seconds: forward and back, and the verdicts on their sum and on the offset.
+#![tactic(auto)]
+
 ghost use Rattle.std.specs.Prelude.{◌≡◌, ◌^◌, leb, nat_abs, pos, ◌+ℤ◌, ◌-ℤ◌};
 ghost use Rattle.numbers.specs.Integers.{Within};
 ghost use Rattle.numbers.specs.Rounding.{held_within};
@@ -11,7 +13,7 @@ use numbers::stamp::{Span, Stamp, difference};
 use numbers::units::Nanoseconds;
 
 // Forward, and the sum of forward and back, in ns. What lies beyond 10^18 either way is given as 10^18: no rule tells the two apart.
-#[derive(Drop)]
+#[derive(Clone, Copy)]
 pub struct Times {
     pub forward: Nanoseconds,
     pub sum: Nanoseconds,
@@ -94,7 +96,7 @@ pub fn measured(
 }
 
 // What the sum tells.
-#[derive(Drop)]
+#[derive(Clone, Copy)]
 pub enum Sum {
     Neg,
     Long,

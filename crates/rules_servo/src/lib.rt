@@ -1,4 +1,6 @@
 // The servo: from an accepted offset to a rate in parts per billion.
+#![tactic(auto)]
+
 ghost use Rattle.std.specs.Prelude.{◌≡◌, ◌-◌, ◌^◌, pos};
 ghost use Rattle.rules_servo.specs.Steps.{held_offset, limit_of, half_gain, fresh_servo, steered_servo, halved_servo, stepped_servo};
 
@@ -14,7 +16,7 @@ const FAR: u64 = 1_000_000_000_000_000;
 
 // Lent to C as it is: 64 octets in this order, and none between the fields.
 #[repr(C)]
-#[derive(Drop)]
+#[derive(Clone, Copy)]
 pub struct Servo {
     pub integral: i64, // I, in 1/128,000 ppb
     pub ten: Ten,

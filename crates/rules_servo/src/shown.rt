@@ -7,14 +7,14 @@ use crate::Servo;
 use crate::ten::Ten;
 use numbers::rounding;
 
-#[derive(Drop)]
+#[derive(Clone, Copy)]
 pub enum Shown {
     Holdover,
     Tracking,
     Adjusting,
 }
 
-#[derive(Drop)]
+#[derive(Clone, Copy)]
 struct Totals {
     sum: i64,
     squares: i64,

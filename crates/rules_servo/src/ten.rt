@@ -4,7 +4,7 @@ ghost use Rattle.rules_servo.specs.Offsets.{opposite_signs, opposites_in, swings
 ghost use Rattle.rules_servo.specs.Ten.{empty_ten, ten_with, list_of};
 
 #[repr(C)]
-#[derive(Drop)]
+#[derive(Clone, Copy)]
 pub struct Ten {
     pub offsets: [i32; 10], // in nanoseconds, the newest first; an accepted one fits an i32
     pub count: u64, // how many of them are held; over ten means ten

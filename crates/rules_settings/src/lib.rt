@@ -1,4 +1,6 @@
 // The thirteen settings, and the one place where their ranges are asked.
+#![tactic(auto)]
+
 ghost use Rattle.std.specs.Prelude.{◌≡◌, ◌&&◌, min};
 ghost use Rattle.numbers.specs.Integers.{up};
 ghost use Rattle.rules_settings.specs.Ranges.{is_between, steering_fits, watch_fits, settings_of, bare_settings};
@@ -9,7 +11,7 @@ use numbers::units::Ppb;
 use wire_layout::message::Port;
 
 #[repr(C)]
-#[derive(Drop)]
+#[derive(Clone, Copy)]
 pub struct Settings {
     pub domain: u8,
     pub own: Port,
@@ -23,7 +25,7 @@ pub struct Settings {
 
 // The settings as they are given: words of any size.
 #[repr(C)]
-#[derive(Drop)]
+#[derive(Clone, Copy)]
 pub struct Given {
     pub domain: u8,
     pub own: Port,
@@ -40,7 +42,7 @@ pub struct Given {
     pub jump: i64,
 }
 
-#[derive(Drop)]
+#[derive(Clone, Copy)]
 pub enum Set {
     Accepted(Settings),
     Refused(Refusal),

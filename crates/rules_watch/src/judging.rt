@@ -10,7 +10,7 @@ use crate::window::Sample;
 use numbers::refusal::Refusal;
 
 // A taken sample comes with the origin that then holds. The rules' definitions are over this type too.
-#[derive(Drop)]
+#[derive(Clone, Copy)]
 pub enum Outcome {
     Refuse(Refusal),
     Wipe(Pulse),

@@ -1,4 +1,6 @@
 // The drift watch: a sample at each second pulse, the window of the last W taken, and the line through its valid samples.
+#![tactic(auto)]
+
 mod columns;
 pub mod judging;
 pub mod settings;
@@ -19,7 +21,7 @@ use window::{Head, Sample, mark};
 // The window's columns are numbers, and the head is small: whoever holds a watch in his own memory lends the columns in place. A fresh watch is
 // also what the unit puts in its place at a wipe.
 #[repr(C)]
-#[derive(Drop)]
+#[derive(Clone, Copy)]
 pub struct Watch {
     pub head: Head,
     pub references: [i64; 128],
@@ -28,7 +30,7 @@ pub struct Watch {
 }
 
 // What is said of a pulse. Back, Range and Jump wipe: the watch stays as it is, for the unit to empty with the rest.
-#[derive(Drop)]
+#[derive(Clone, Copy)]
 pub enum Pulse {
     Valid,
     Invalid,
@@ -71,27 +73,27 @@ impl Pulse {
     }
 }
 
-#[derive(Drop)]
+#[derive(Clone, Copy)]
 pub enum Answer {
     Refused(Refusal),
     Says(Pulse),
 }
 
 // What a pulse leaves of a watch whose columns were lent, ..
-#[derive(Drop)]
+#[derive(Clone, Copy)]
 pub struct Took {
     pub head: Head,
     pub answer: Answer,
 }
 
 // .. and of a whole one. The watch comes first: with a small field before it a copy of the window was made in pieces.
-#[derive(Drop)]
+#[derive(Clone, Copy)]
 pub struct Taken {
     pub watch: Watch,
     pub answer: Answer,
 }
 
-#[derive(Drop)]
+#[derive(Clone, Copy)]
 pub enum Drift {
     Refused(Refusal),
     Line(Line),

@@ -3,7 +3,7 @@ ghost use Rattle.std.specs.Prelude.{◌≡◌, ◌&&◌, min, max, leb};
 ghost use Rattle.rules_watch.specs.Settings.{size_of, least_of, wait_of};
 
 #[repr(C)]
-#[derive(Drop)]
+#[derive(Clone, Copy)]
 pub struct WatchSettings {
     pub window: u8, // W
     pub minimum: u8, // of valid samples in the window

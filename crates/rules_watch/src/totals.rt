@@ -6,7 +6,7 @@ use numbers::units::Position;
 
 // n, sum x, sum x², sum y and sum xy. Over 128 samples in a window of 128 places each stays far within an i64.
 #[repr(C)]
-#[derive(Drop)]
+#[derive(Clone, Copy)]
 pub struct Totals {
     pub n: i64,
     pub x: i64,
@@ -17,7 +17,7 @@ pub struct Totals {
 
 // Level and slope as numerators over `over`, the number of samples, and the slope in ppm.
 #[repr(C)]
-#[derive(Drop)]
+#[derive(Clone, Copy)]
 pub struct Line {
     pub level: i64,
     pub slope: i64,

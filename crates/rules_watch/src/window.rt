@@ -3,7 +3,7 @@ ghost use Rattle.std.specs.Prelude.{◌≡◌, ◌+◌, ◌%◌, min};
 ghost use Rattle.rules_watch.specs.Window.{fresh_head, head_after, mark_of};
 
 // What can't be derived of a sample: its clock stamp is reference + y + the head's origin. The ring holds each of the three in a column of its own.
-#[derive(Drop)]
+#[derive(Clone, Copy)]
 pub struct Sample {
     pub reference: i64,
     pub y: i32,
@@ -11,7 +11,7 @@ pub struct Sample {
 }
 
 #[repr(C)]
-#[derive(Drop)]
+#[derive(Clone, Copy)]
 pub struct Head {
     pub origin: i64, // clock - reference of the first sample since the wipe
     pub next: u32, // the place that is written next; past the ring it is taken round it

@@ -1,4 +1,6 @@
 // The unit whole: its core with its servo, its table of masters and its watch. One step for each call.
+#![tactic(auto)]
+
 ghost use Rattle.std.specs.Prelude.{◌≡◌, length};
 ghost use Rattle.unit_measuring.specs.Frame.{frame_after};
 ghost use Rattle.unit.specs.Calls.{fresh_unit, stepped_after, receive_of, step_of};
@@ -20,7 +22,7 @@ use unit_ticking::{line, tick};
 use wire_layout::message::{Body, Message};
 
 #[repr(C)]
-#[derive(Drop)]
+#[derive(Clone, Copy)]
 pub struct Unit {
     pub core: Core,
     pub servo: Servo,
@@ -28,7 +30,7 @@ pub struct Unit {
     pub watch: Watch,
 }
 
-#[derive(Drop)]
+#[derive(Clone, Copy)]
 pub struct Stepped {
     pub answer: Answer,
     pub unit: Unit,

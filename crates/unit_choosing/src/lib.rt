@@ -1,4 +1,6 @@
 // The calls that make the choice anew: an Announce, and the bare time call.
+#![tactic(auto)]
+
 ghost use Rattle.std.specs.Prelude.{◌≡◌};
 ghost use Rattle.numbers.specs.Grounds.{first_of};
 ghost use Rattle.numbers.specs.Orders.{of_time};
@@ -18,7 +20,7 @@ use unit_core::calls::Answer;
 use unit_core::{Core, Moved};
 
 // What an Announce leaves.
-#[derive(Drop)]
+#[derive(Clone, Copy)]
 pub struct Seated {
     pub table: Table,
     pub moved: Moved,

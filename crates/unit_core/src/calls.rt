@@ -9,7 +9,7 @@ use rules_watch::Pulse;
 use rules_watch::totals::Line;
 use wire_layout::message::Message;
 
-#[derive(Drop)]
+#[derive(Clone, Copy)]
 pub enum Call {
     Receive(u64, Stamp, Message), // now, the stamp of its arrival, a read message
     Request(u64, usize), // now, the octets of the lent frame
@@ -22,7 +22,7 @@ pub enum Call {
 }
 
 // What the port shows.
-#[derive(Drop)]
+#[derive(Clone, Copy)]
 pub enum PortState {
     Faulty,
     Listening,
@@ -30,7 +30,7 @@ pub enum PortState {
     Slave,
 }
 
-#[derive(Drop)]
+#[derive(Clone, Copy)]
 pub struct Shows {
     pub port: PortState,
     pub servo: Shown,
@@ -42,7 +42,7 @@ pub struct Shows {
 }
 
 // The answers of the choice, of the exchange and of the watch are one case each. Which of them wipe is said in specs/Answers.antt.
-#[derive(Drop)]
+#[derive(Clone, Copy)]
 pub enum Answer {
     Refused(Refusal),
     Choice(Decision), // of an Announce, or of a time call

@@ -1,4 +1,6 @@
 // The core of the unit: what is held of it beside servo, table and watch, which are lent; its calls and answers; the wipe; what it shows.
+#![tactic(auto)]
+
 pub mod calls;
 pub mod run;
 pub mod showing;
@@ -16,7 +18,7 @@ use run::{Fresh, Run, one_more};
 
 // What belongs to one domain.
 #[repr(C)]
-#[derive(Drop)]
+#[derive(Clone, Copy)]
 pub struct Domain {
     pub chosen: Chosen,
     pub run: Run,
@@ -26,7 +28,7 @@ pub struct Domain {
 }
 
 #[repr(C)]
-#[derive(Drop)]
+#[derive(Clone, Copy)]
 pub struct Core {
     pub settings: Settings,
     pub now: u64, // the last accepted
@@ -34,7 +36,7 @@ pub struct Core {
 }
 
 // What a call leaves of core and servo.
-#[derive(Drop)]
+#[derive(Clone, Copy)]
 pub struct Moved {
     pub answer: Answer,
     pub wipes: bool, // whoever holds the watch is to make it fresh

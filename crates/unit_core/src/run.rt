@@ -7,7 +7,7 @@ use rules_servo::Servo;
 
 // What is emptied of the core: one value, so that nothing can stay behind.
 #[repr(C)]
-#[derive(Drop)]
+#[derive(Clone, Copy)]
 pub struct Run {
     pub exchange: Exchange,
     pub measured: bool, // a measurement was accepted since the wipe ..
@@ -15,7 +15,7 @@ pub struct Run {
 }
 
 // All that a wipe empties but the watch.
-#[derive(Drop)]
+#[derive(Clone, Copy)]
 pub struct Fresh {
     pub run: Run,
     pub servo: Servo,

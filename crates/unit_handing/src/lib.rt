@@ -1,4 +1,6 @@
 // Calls as they are handed over: what bars them before the unit is asked, and what it is asked.
+#![tactic(auto)]
+
 ghost use Rattle.std.specs.Prelude.{◌≡◌};
 ghost use Rattle.wire_layout.specs.Reading.{read_of};
 ghost use Rattle.unit_handing.specs.Handing.{is_delay_req, message_asked, read_asked, time_asked, stepped_by};
@@ -11,7 +13,7 @@ use wire_layout::kinds;
 use wire_layout::message::{Body, Message, Read};
 use wire_reader::read;
 
-#[derive(Drop)]
+#[derive(Clone, Copy)]
 pub enum Asked {
     Barred(Refusal),
     Asks(Call),

@@ -1,5 +1,7 @@
 // The calls of the exchange: a message of the master, the unit's own request and its t3. What bars them, and what the exchange's answer makes of the
 // unit.
+#![tactic(auto)]
+
 pub mod asking;
 pub mod frame;
 pub mod hearing;

@@ -1,4 +1,6 @@
 // The calls of the drift watch: the second pulse, and the line. It runs on without a master and while FAULTY (rule 9.18).
+#![tactic(auto)]
+
 ghost use Rattle.std.specs.Prelude.{◌≡◌};
 ghost use Rattle.rules_watch.specs.Rules.{outcome};
 ghost use Rattle.rules_watch.specs.Watch.{since_of, watch_line};
@@ -12,7 +14,7 @@ use unit_core::calls::Answer;
 use unit_core::{Core, Moved};
 
 // What a second pulse leaves. A watch that is wiped is made fresh by whoever holds it.
-#[derive(Drop)]
+#[derive(Clone, Copy)]
 pub struct Ticked {
     pub watch: Watch,
     pub moved: Moved,

@@ -1,4 +1,6 @@
 // The wire: messages on whole frames, the unit's own Delay_Req, and both round trips as promises of code.
+#![tactic(auto)]
+
 ghost use Rattle.std.specs.Prelude.{◌≡◌, ◌++◌, ◌-◌, length, take, drop};
 ghost use Rattle.wire_layout.specs.Writing.{write_of, left_by};
 ghost use Rattle.wire_frames.specs.Frames.{request_of, written_read, read_written, copied};

@@ -2,7 +2,7 @@
 ghost use Rattle.std.specs.Prelude.{◌≡◌};
 ghost use Rattle.wire_layout.specs.Kinds.{fixed_length_of};
 
-#[derive(Drop)]
+#[derive(Clone, Copy)]
 pub struct Sync {}
 
 impl Sync {
@@ -11,7 +11,7 @@ impl Sync {
     pub const LENGTH: usize = 44;
 }
 
-#[derive(Drop)]
+#[derive(Clone, Copy)]
 pub struct DelayReq {}
 
 impl DelayReq {
@@ -20,7 +20,7 @@ impl DelayReq {
     pub const LENGTH: usize = 44;
 }
 
-#[derive(Drop)]
+#[derive(Clone, Copy)]
 pub struct FollowUp {}
 
 impl FollowUp {
@@ -29,7 +29,7 @@ impl FollowUp {
     pub const LENGTH: usize = 44;
 }
 
-#[derive(Drop)]
+#[derive(Clone, Copy)]
 pub struct DelayResp {}
 
 impl DelayResp {
@@ -38,7 +38,7 @@ impl DelayResp {
     pub const LENGTH: usize = 54;
 }
 
-#[derive(Drop)]
+#[derive(Clone, Copy)]
 pub struct Announce {}
 
 impl Announce {

@@ -8,7 +8,7 @@ use numbers::stamp::Stamp;
 
 // A port identity: 8 octets of clock identity, 2 of port number.
 #[repr(C)]
-#[derive(Drop)]
+#[derive(Clone, Copy)]
 pub struct Port {
     pub clock: u64,
     pub number: u16,
@@ -16,7 +16,7 @@ pub struct Port {
 
 // The header but for what is derived: version, kind and messageLength.
 #[repr(C)]
-#[derive(Drop)]
+#[derive(Clone, Copy)]
 pub struct Header {
     pub sdo: u8,
     pub minor: u8,
@@ -33,7 +33,7 @@ pub struct Header {
 
 // What an Announce offers behind its timestamp.
 #[repr(C)]
-#[derive(Drop)]
+#[derive(Clone, Copy)]
 pub struct Offer {
     pub utc: i16,
     pub reserved: u8,
@@ -48,7 +48,7 @@ pub struct Offer {
 }
 
 // What follows the header: the timestamp, and what comes after it.
-#[derive(Drop)]
+#[derive(Clone, Copy)]
 pub enum Body {
     Sync(Stamp),
     DelayReq(Stamp),
@@ -57,28 +57,28 @@ pub enum Body {
     Announce(Stamp, Offer),
 }
 
-#[derive(Drop)]
+#[derive(Clone, Copy)]
 pub struct Message {
     pub header: Header,
     pub body: Body,
 }
 
 // The octets of a part, from the first to just before the last.
-#[derive(Drop)]
+#[derive(Clone, Copy)]
 pub struct Part {
     pub from: usize,
     pub to: usize,
 }
 
 // What reading answers: the message and where its TLV suffix lies, or the refusal.
-#[derive(Drop)]
+#[derive(Clone, Copy)]
 pub enum Read {
     Got(Message, Part),
     Refused(Refusal),
 }
 
 // What writing answers: the message's length, or the refusal.
-#[derive(Drop)]
+#[derive(Clone, Copy)]
 pub enum Written {
     Wrote(usize),
     Barred(Refusal),

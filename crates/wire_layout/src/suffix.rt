@@ -5,7 +5,7 @@ ghost use Rattle.wire_layout.specs.Suffix.{tlv_of, whole_of};
 use wire_octets::u16_at;
 
 // What is at a place of a suffix: nothing more, a whole TLV with its type and its value's length, or neither.
-#[derive(Drop)]
+#[derive(Clone, Copy)]
 pub enum Tlv {
     End,
     Whole(u16, usize),

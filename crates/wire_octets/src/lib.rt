@@ -1,4 +1,6 @@
 // Big-endian numbers in octets: read at a place, and copied in. The leaves of reading and writing.
+#![tactic(auto)]
+
 ghost use Rattle.std.specs.Prelude.{◌≡◌, ◌+◌, ◌*◌, ◌≤◌, ◌<◌, ◌^◌, length};
 ghost use Rattle.std.specs.Int.{w8, w16, w64};
 ghost use Rattle.std.proofs.Common.{to_z, of_z};

@@ -1,4 +1,6 @@
 // Reading: the octets of a message, behind the Ethernet header, become the message, or the refusal that says why not.
+#![tactic(auto)]
+
 ghost use Rattle.std.specs.Prelude.{◌≡◌, ◌+◌, ◌≤◌, ◌<◌, length};
 ghost use Rattle.numbers.specs.Grounds.{first_of};
 ghost use Rattle.wire_layout.specs.Kinds.{fixed_length_of};

@@ -1,4 +1,6 @@
 // Writing: a message and its suffix become octets in the part of a frame that is lent, or the refusal that says why not.
+#![tactic(auto)]
+
 ghost use Rattle.std.specs.Prelude.{◌≡◌, ◌+◌, ◌≤◌, ◌<◌, length};
 ghost use Rattle.std.specs.Int.{w8, w16, w64};
 ghost use Rattle.std.proofs.Common.{of_z};

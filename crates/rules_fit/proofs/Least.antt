@@ -149,6 +149,7 @@ domain a b h e = abs-zero b (eq_of_mul-eq-mul_left (nat_abs a) (nonzero a h) (na
 
 spread-zero : (u w : ℤ) (l : List Point) (s : Point) → Memᴰ s l → spread u w l ≡ 0 → u +ℤ w *ℤ s.x ≡ pos 0
 unfolding spread
+spread-zero u w [] s m h = absurd (Memᴰ.not-nil m)
 spread-zero u w (t ∷ l) s (Memᴰ.head e) h = rw e (sq-zero (u +ℤ w *ℤ t.x) (omega arith))
 spread-zero u w (t ∷ l) s (Memᴰ.tail m) h = spread-zero u w l s m (omega arith)
 

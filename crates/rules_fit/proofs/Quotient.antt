@@ -1,10 +1,10 @@
 -- The quotient of two whole numbers that the format counts without a gap is the rounded fraction. Assumes nothing.
 use mathlib.Core.Path.{◌≡◌, refl, sym, ap, ◌∙◌, subst}
 use mathlib.Core.Bool.{Bool, true, false, not}
-use Prim.Native.Nat.{ℕ, zero, suc, ◌*◌, ◌^◌, ◌<◌}
+use Prim.Native.Nat.{ℕ, suc, ◌*◌, ◌^◌, ◌<◌}
 use native.Mathlib.Nat.{mul-one, mul_comm, mul_assoc, mul_right_comm, mul-pos, lt_irrefl, zero-mul, le_of_lt}
 use native.Mathlib.Omega.{arith}
-use lib.Dec.{T, leb, ltb, le→leb, lt→ltb, ltb→lt}
+use lib.Dec.{T, le→leb, lt→ltb, ltb→lt}
 use lib.IntN.{ℤ, pos, negsuc, nat_abs}
 use lib.Signed.{non_neg, ◌<ℤ◌}
 use lib.Ieee.{Float, nan, inf, fin, Format, binary64, up, down, unlike, round, div, of_int, in_float, fits}

@@ -1,13 +1,13 @@
 -- Two's complement by arithmetic, over the width: what -1 - m is, which bits are negative, and what -1 - z is there.
-use mathlib.Core.Path.{◌≡◌, refl, ap, sym, ◌∙◌}
+use mathlib.Core.Path.{◌≡◌, refl, ap, ◌∙◌}
 use mathlib.Core.Bool.{true, false}
-use Prim.Native.Nat.{ℕ, zero, suc, ◌+◌, ◌-◌, ◌<◌, ◌≤◌, ◌^◌}
+use Prim.Native.Nat.{ℕ, zero, suc, ◌-◌, ◌<◌, ◌^◌}
 use native.Mathlib.Nat.{zero-add}
 use native.Mathlib.Omega.{arith}
-use lib.IntN.{ℤ, pos, negsuc, nat_abs, ◌-ℤ◌}
+use lib.IntN.{ℤ, pos, negsuc, ◌-ℤ◌}
 use lib.Signed.{lt_z}
 use mir.Syntax.{Width}
-use mir.Val.{to_z, of_z, SFits, Fits, bits, hbits}
+use mir.Val.{to_z, of_z, SFits, bits, hbits}
 use mir.Facts.{to_z-neg}
 use Rattle.numbers.proofs.Integers.{ext, up-add, dn-add, lt_z-true, lt_z-false}
 

@@ -1,8 +1,8 @@
 -- What was written is read and what was read is written, for numbers of any width; and stores behind stores.
 use mathlib.Core.Path.{◌≡◌, refl, ap, sym, ◌∙◌}
 use mathlib.Core.List.{List, [], ◌∷◌, ◌++◌, append_assoc}
-use Prim.Native.Nat.{ℕ, zero, suc, ◌+◌, ◌-◌, ◌*◌, ◌/◌, ◌%◌, ◌^◌, ◌<◌, ◌≤◌, zero-le}
-use native.Mathlib.Nat.{add-zero, add-suc, add_assoc, mul_assoc, pow-succ', div-one, div-div-eq-div-mul, zero-add, mul_comm, zero-mul}
+use Prim.Native.Nat.{ℕ, zero, suc, ◌+◌, ◌*◌, ◌/◌, ◌%◌, ◌^◌, ◌<◌, ◌≤◌}
+use native.Mathlib.Nat.{add-zero, add-suc, add_assoc, mul_assoc, pow-succ', div-one, div-div-eq-div-mul, zero-add, mul_comm}
 use native.Mathlib.Omega.{arith}
 use lib.ListN.{length, get_or, take, drop, length-append, length-drop}
 use lib.Seq.{get_or_at, drop-cons, take_at, drop-drop, drop-append-add, length-take-le}

@@ -25,6 +25,7 @@ fn join32(a: u32, b: u32) -> u64
     (a as u64) * 4_294_967_296 + (b as u64)
 }
 
+#[tactic(auto, unfolding(crate::specs::Octets::num))]
 pub fn u16_at(s: &[u8], at: usize) -> u16
     requires { at + 2 ≤ length s.now }
     ensures { result ≡ num 2 at s.now }
@@ -32,6 +33,7 @@ pub fn u16_at(s: &[u8], at: usize) -> u16
     pair(s[at], s[at + 1])
 }
 
+#[tactic(auto, unfolding(crate::specs::Octets::num))]
 pub fn u32_at(s: &[u8], at: usize) -> u32
     requires { at + 4 ≤ length s.now }
     ensures { result ≡ num 4 at s.now }

@@ -66,14 +66,14 @@ fn faults(function: &Function) -> Vec<String> {
         function.promises.split_once("ensures").unwrap_or((&function.promises, ""));
     let mut found = vec![];
     let settled = |clause: &str| {
-        let promised = clause.split_once("λ ").and_then(|(_, rest)| rest.split_once(". ⌜ "));
-        promised
-            .is_some_and(|(r, told)| told.trim_start_matches('(').starts_with(&format!("{r} ≡ ")))
+        clause
+            .split_once("{ ")
+            .is_some_and(|(_, told)| told.trim_start_matches('(').starts_with("result ≡ "))
     };
     if result.contains("->") && !clauses.split("ensures").any(settled) {
         found.push(format!("{}: its answer is not settled", function.name));
     }
-    let open = |name: &&str| !clauses.contains(&format!("now ({name} .exit) ≡ "));
+    let open = |name: &&str| !clauses.contains(&format!("{name}.new ≡ "));
     found.extend(
         lent(function)
             .into_iter()
@@ -108,6 +108,9 @@ fn every_contract_settles_its_answer_and_what_is_lent() {
             continue; // of its text nothing is promised but that it ends
         }
         for source in sources(entry.path().join("src")) {
+            if source.extension() != Some("rt".as_ref()) {
+                continue;
+            }
             let file = std::fs::read_to_string(&source).expect("a source");
             let all = functions(&file);
             read += all.len();
@@ -122,13 +125,22 @@ fn every_contract_settles_its_answer_and_what_is_lent() {
 #[test]
 fn a_contract_that_leaves_something_open_is_found() {
     let faulty = |text: &str| functions(text).iter().flat_map(faults).collect::<Vec<String>>();
-    let promised = "\npub fn f(a: u8, b: &mut [u8]) -> u8\n    ensures { λ r. ⌜ (r ≡ g a) × (now (b .exit) ≡ h) ⌝ }\n{\n";
+    let promised =
+        "\npub fn f(a: u8, b: &mut [u8]) -> u8\n    ensures { (result ≡ g a) × (b.new ≡ h) }\n{\n";
     assert_eq!(faulty(promised), [""; 0]);
-    assert_eq!(faulty(&promised.replace("r ≡ g a", "r ≤ g a")), ["f: its answer is not settled"]);
-    assert_eq!(faulty(&promised.replace("b .exit", "b .entry")), ["f: b is not settled"]);
-    assert_eq!(faulty(&promised.replace("λ r. ⌜ (r ≡ g a)", "λ r. ⌜ (c → r ≡ g a)")).len(), 2);
+    let labelled = promised.replace(
+        "{ (result ≡ g a) × (b.new ≡ h) }",
+        "value { result ≡ g a }\n    ensures after { b.new ≡ h }",
+    );
+    assert_eq!(faulty(&labelled), [""; 0]);
     assert_eq!(
-        faulty(&promised.replace("    ensures", "    requires { ⌜ c ⌝ }\n    ensures")),
+        faulty(&promised.replace("result ≡ g a", "result ≤ g a")),
+        ["f: its answer is not settled"]
+    );
+    assert_eq!(faulty(&promised.replace("b.new", "b.old")), ["f: b is not settled"]);
+    assert_eq!(faulty(&promised.replace("(result ≡ g a)", "(c → result ≡ g a)")).len(), 2);
+    assert_eq!(
+        faulty(&promised.replace("    ensures", "    requires { c }\n    ensures")),
         ["f: it asks something of its caller"]
     );
     let bare = "\npub fn e() -> u8 {\n    1\n}\n";

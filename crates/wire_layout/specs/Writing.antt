@@ -1,5 +1,5 @@
 -- What writing answers and leaves: the first of its refusals that is due, in the order of `of_writing`, else the message's octets in front of what was there.
-use Rattle.std.specs.Prelude.{Bool, true, false, not, cond, List, [], ◌∷◌, ◌++◌, ℕ, ◌+◌, ◌-◌, ◌*◌, ◌^◌, ltb, length, drop}
+use Rattle.std.specs.Prelude.{Bool, false, not, cond, List, [], ◌∷◌, ◌++◌, ℕ, ◌+◌, ◌*◌, ltb, length, drop}
 use Rattle.std.specs.Int.{w8, w16, w64}
 use Rattle.std.proofs.Common.{of_z}
 use Rattle.wire_octets.specs.Octets.{big_endian}

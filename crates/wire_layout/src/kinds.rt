@@ -48,6 +48,7 @@ impl Announce {
 }
 
 // The fixed length of a kind, 0 where there is no such kind.
+#[tactic(auto, unfolding(crate::specs::Kinds::fixed_length_of))]
 pub fn fixed_length(kind: u8) -> usize
     ensures { result ≡ fixed_length_of kind }
 {

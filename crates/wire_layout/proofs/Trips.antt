@@ -133,7 +133,8 @@ read-written m t rest i f w l =
     let size = size_back m n u F small in
     let long : length s ≡ n + length rest = rw (length-append (octets_of m n) u, length-append t rest) (omega (arith, octets-length m n)) in
     let suffix : suffix_in s ≡ t =
-    rw (size, len, drop_at (octets_of m n) u (body_size b) (octets-length m n)) (take_at t rest (n - body_size b) (omega arith)) in
+    (λ i. take (len i - size i) (drop (size i) s))
+    ∙ rw (drop_at (octets_of m n) u (body_size b) (octets-length m n)) (take_at t rest (n - body_size b) (omega arith)) in
     let body : body_of (kind_in s) s ≡ b =
     rw kin (body_back m.header (kind_of b) n u b i.body F.seconds (omega (arith, F.nanoseconds))) in
     let sound : sound_of (stamp_of s) ≡ true = ap (λ (x : Body). sound_of (stamp_in x)) body ∙ F.sound in

@@ -13,20 +13,20 @@ pub returns-then-t-at : goal.returns-then-t-at
 returns-then-t-at c =
     let t = c.args.t.now in
     let at = c.args.at in
-    sym (t-end (drop at t) (rw length-drop (omega arith)))
+    sym (t-end (drop at t) (omega (arith, length-drop at t)))
 
 pub returns-then-left-lt4 : goal.returns-then-left-lt4
 returns-then-left-lt4 c =
     let t = c.args.t.now in
     let at = c.args.at in
-    sym (t-short (drop at t) (λ z. omega (arith, length-drop at t)) (rw length-drop c.if-left-lt4.true))
+    sym (t-short (drop at t) (λ z. omega (arith, length-drop at t)) (omega (arith, length-drop at t)))
 
 pub returns-then-n-ne0 : goal.returns-then-n-ne0
 returns-then-n-ne0 c =
     let t = c.args.t.now in
     let at = c.args.at in
     let n = c.u16_at-n.ensures ∙ sym (num-drop 2 2 at t) in
-    sym (t-odd (drop at t) (rw length-drop (omega arith)) (rw n at c.if-n-ne0.true))
+    sym (t-odd (drop at t) (omega (arith, length-drop at t)) (λ z. omega (arith, n)))
 
 pub returns-then-left-n : goal.returns-then-left-n
 returns-then-left-n c =
@@ -34,7 +34,7 @@ returns-then-left-n c =
     let at = c.args.at in
     let n = c.u16_at-n.ensures ∙ sym (num-drop 2 2 at t) in
     let l : length (drop at t) ≡ length t - at = length-drop at t in
-    sym (t-long (drop at t) (rw l (omega arith)) (rw n at c.if-n-ne0.false) (rw l (rw n at c.if-left-n.true)))
+    sym (t-long (drop at t) (omega (arith, l)) (omega (arith, n)) (omega (arith, l, n)))
 
 pub returns : goal.returns
 returns c =
@@ -43,4 +43,4 @@ returns c =
     let n = c.u16_at-n.ensures ∙ sym (num-drop 2 2 at t) in
     let k : c.u16_at.result ≡ num 2 0 (drop at t) = rw (num-drop 2 0 at t, add-zero) c.u16_at.ensures in
     let l : length (drop at t) ≡ length t - at = length-drop at t in
-    (λ i. Whole (k i) (n i)) ∙ sym (t-whole (drop at t) (rw l (omega arith)) (rw n at c.if-n-ne0.false) (rw l (rw n at c.if-left-n.false)))
+    (λ i. Whole (k i) (n i)) ∙ sym (t-whole (drop at t) (omega (arith, l)) (omega (arith, n)) (omega (arith, l, n)))

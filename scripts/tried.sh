@@ -2,7 +2,7 @@
 # Tries the wrong answers in crates/NAME/tried as the gate tries those in crates/NAME/must-fail: the prover must refuse each. They are
 # kept apart so that the gate stays short.
 # Usage: scripts/tried.sh [NAME..]   (crates; else all)
-# Needs the kit (rt, or what RT names). What target/ has proved is not proved again. Status 1 where an edit is not refused.
+# Needs the kit (rt, or what RT names). What the crates' out/ has proved is not proved again. Status 1 where an edit is not refused.
 set -euo pipefail
 cd "$(dirname "$0")/.."
 for name in "$@"; do
@@ -11,7 +11,6 @@ done
 work=$(mktemp -d)
 trap 'rm -rf "$work"' EXIT
 cp -r crates crates.txt "$work"
-[ ! -d target ] || cp -r target "$work"
 rm -rf "$work"/crates/*/must-fail
 for tried in "$work"/crates/*/tried; do
   name=$(basename "$(dirname "$tried")")

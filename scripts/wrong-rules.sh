@@ -3,7 +3,7 @@
 # one above it must refuse: the story, which is told from the calls and answers alone, the unit, the settings, or demands, which has numbers
 # for what story and code share. Each takes some minutes.
 # Usage: scripts/wrong-rules.sh
-# Needs the kit (rt, or what RT names). What target/ has proved is not proved again. Status 1 where nothing refuses.
+# Needs the kit (rt, or what RT names). What the crates' out/ has proved is not proved again. Status 1 where nothing refuses.
 set -euo pipefail
 cd "$(dirname "$0")/.."
 work=$(mktemp -d)
@@ -17,14 +17,13 @@ try() {
   rm -rf "$work/tree"
   mkdir "$work/tree"
   cp -r crates crates.txt "$work/tree"
-  [ ! -d target ] || cp -r target "$work/tree"
   while [ $# -gt 0 ]; do
     OLD=$2 NEW=$3 perl -0pi -e 'BEGIN { $n = 0 } $n += s/\Q$ENV{OLD}\E/$ENV{NEW}/g; END { exit($n != 1) }' "$work/tree/crates/$1" ||
       { echo "wrong-rules: $name: '$2' is not there once in crates/$1" >&2; return 1; }
     shift 3
   done
-  (cd "$work/tree" && "${RT:-rt}" check "$proved" >"$work/log" 2>&1) || { echo "wrong-rules: $name: $proved is not proved" >&2; grep ': error' "$work/log" | head -3 >&2; return 1; }
-  if (cd "$work/tree" && "${RT:-rt}" check "$refused" >"$work/log" 2>&1); then
+  (cd "$work/tree/crates/$proved" && "${RT:-rt}" check >"$work/log" 2>&1) || { echo "wrong-rules: $name: $proved is not proved" >&2; grep ': error' "$work/log" | head -3 >&2; return 1; }
+  if (cd "$work/tree/crates/$refused" && "${RT:-rt}" check >"$work/log" 2>&1); then
     echo "wrong-rules: $name: $refused is proved, and must not be" >&2
     return 1
   fi
@@ -34,7 +33,7 @@ try() {
 
 try sequence_of_65535 unit story \
   unit_measuring/src/asking.rt '% 65_536) as u16' '% 65_535) as u16' \
-  unit_measuring/specs/Asking.antt '(k .sequence + 1) % 2 ^ 16' '(k .sequence + 1) % 65535'
+  unit_measuring/specs/Asking.antt '(k.sequence + 1) % 2 ^ 16' '(k.sequence + 1) % 65535'
 try one_step_correction_twice rules_exchange story_exchange \
   rules_exchange/src/halves.rt 'follow: 0,
         };
@@ -48,12 +47,12 @@ try wipe_unsaid unit_choosing unit \
   unit_choosing/src/lib.rt 'use rules_masters::chosen::Chosen;' 'use rules_masters::chosen::Chosen;
 use rules_masters::chosen::Decision;' \
   unit_choosing/specs/Choosing.antt 'wipes (Choice d)' 'wipes (Choice (Same c))' \
-  unit_choosing/specs/Choosing.antt 'use Rattle·rules_masters.specs.Holding.' 'use Rattle·rules_masters.specs.declared.chosen.Decision.the-variants.{Same}
-use Rattle·rules_masters.specs.Holding.'
+  unit_choosing/specs/Choosing.antt 'use Rattle.rules_masters.specs.Holding.' 'use Rattle.rules_masters.specs.declared.chosen.Decision.TheVariants.{Same}
+use Rattle.rules_masters.specs.Holding.'
 try minimum_one_too_low rules_watch rules_settings \
   rules_watch/src/settings.rt 'if self.minimum < 2 { 2 } else { self.minimum }' 'if self.minimum < 3 { 2 } else { self.minimum - 1 }' \
-  rules_watch/specs/Settings.antt 'leastOf t = max 2 (t .minimum)' 'leastOf t = max 2 (t .minimum - 1)' \
-  rules_watch/specs/Settings.antt 'use Prim.Native.Nat.{ℕ, min, max}' 'use Prim.Native.Nat.{ℕ, _-_, min, max}'
+  rules_watch/specs/Settings.antt 'least_of t = max 2 t.minimum' 'least_of t = max 2 (t.minimum - 1)' \
+  rules_watch/specs/Settings.antt 'use Rattle.std.specs.Prelude.{ℕ, min, max}' 'use Rattle.std.specs.Prelude.{ℕ, ◌-◌, min, max}'
 try steps_of_254 rules_masters demands \
   rules_masters/src/admission.rt 'if 255 <= announce.offer.steps' 'if 254 <= announce.offer.steps' \
-  rules_masters/specs/Admitting.antt 'leb 255 (m .offer .steps)' 'leb 254 (m .offer .steps)'
+  rules_masters/specs/Admitting.antt 'leb 255 m.offer.steps' 'leb 254 m.offer.steps'

@@ -19,30 +19,26 @@ fn write(path: &Path, text: &str) {
 /// repository which crate it is in.
 const SOURCE: &str = "repository/crates/one/src/main";
 
-/// A repository with one crate and the script, and beside it a kit: `rt`, what it does given, and a
-/// loader that says what it is to run.
+/// A repository with one crate and the script, and beside it a kit: `rt`, which does what is given.
 fn place(name: &str, rt: &str) -> PathBuf {
     let place = Path::new(env!("CARGO_TARGET_TMPDIR")).join("scripts").join(name);
     let _ = fs::remove_dir_all(&place);
     write(&place.join("kit/bin/rt"), &format!("#!/bin/sh\n{rt}\n"));
-    let loader = "#!/bin/sh\necho \"loader $2\"\ncat\n";
-    write(&place.join(format!("kit/on/{}/toolchain/lib/ld-linux-x86-64.so.2", machine())), loader);
+    write(&place.join("kit/machine/uname"), "#!/bin/sh\necho x86_64\n");
     write(&place.join("repository/crates.txt"), "one:\n");
+    write(&place.join("repository/crates/bench/stdin"), "");
     write(&place.join(SOURCE), "");
     write(&place.join("repository/list"), "show\n");
     fs::copy(format!("{ROOT}/bench"), place.join("repository/bench")).unwrap();
     place
 }
 
-fn machine() -> String {
-    let output = Command::new("uname").arg("-m").output().unwrap();
-    String::from_utf8(output.stdout).unwrap().trim().to_string()
-}
-
 /// Runs the script of a place from elsewhere.
 fn bench(place: &Path, words: &[&str]) -> Output {
     let mut command = Command::new(place.join("repository/bench"));
-    command.args(words).env("RT", place.join("kit/bin/rt")).env_remove("RATTLE_HOME");
+    let path =
+        format!("{}:{}", place.join("kit/machine").display(), std::env::var("PATH").unwrap());
+    command.args(words).env("RT", place.join("kit/bin/rt")).env("PATH", path);
     command.current_dir(place.join("repository")).stdin(fs::File::open("/dev/null").unwrap());
     command.output().unwrap()
 }
@@ -53,8 +49,8 @@ fn texts(output: &Output) -> (String, String) {
 }
 
 /// What rt does where all is proved.
-const PROVES: &str =
-    "echo \"rt: one proved (1 s)\"\nmkdir -p target/stamp && : >target/stamp/bench";
+const PROVES: &str = "echo \"rt: one proved (1 s)\" >&2\nmkdir -p out\n\
+    printf '#!/bin/sh\\necho program\\ncat\\n' >out/bench\nchmod +x out/bench";
 
 #[test]
 fn it_builds_what_is_missing_and_says_so() {
@@ -62,32 +58,36 @@ fn it_builds_what_is_missing_and_says_so() {
     let output = bench(&place, &["list"]);
     let (told, said) = texts(&output);
     assert!(output.status.success(), "{said}");
-    assert!(told.starts_with("loader ") && told.ends_with("show\n"), "{told}");
+    assert!(told.starts_with("program\n") && told.ends_with("show\n"), "{told}");
     assert!(
         said.contains("proving and building it") && said.contains("bench: one proved"),
         "{said}"
     );
     // Nothing is missing now, until a source is newer.
     let (told, said) = texts(&bench(&place, &[]));
-    assert!(told.starts_with("loader ") && said.is_empty(), "{told}{said}");
+    assert!(told.starts_with("program\n") && said.is_empty(), "{told}{said}");
     let source = fs::File::options().write(true).open(place.join(SOURCE));
     source.unwrap().set_modified(SystemTime::now() + Duration::from_secs(5)).unwrap();
     assert!(texts(&bench(&place, &[])).1.contains("bench: one proved"));
 }
 
 #[test]
-fn it_runs_the_kits_emulator_where_there_is_one() {
+fn it_runs_an_emulator_where_the_processor_is_another() {
     let place = place("emulated", PROVES);
-    let emulator = format!("kit/on/{}/toolchain/bin/qemu-x86_64", machine());
-    write(&place.join(emulator), "#!/bin/sh\necho emulated\nexec \"$@\"\n");
+    write(&place.join("kit/machine/uname"), "#!/bin/sh\necho aarch64\n");
+    let emulator = "#!/bin/sh\necho emulated\nexec \"$@\"\n";
+    write(&place.join("kit/machine/qemu-x86_64"), emulator);
     let (told, _) = texts(&bench(&place, &["list"]));
-    assert!(told.starts_with("emulated\nloader ") && told.ends_with("show\n"), "{told}");
+    assert!(told.starts_with("emulated\nprogram\n") && told.ends_with("show\n"), "{told}");
 }
 
 #[test]
 fn it_runs_nothing_that_is_not_proved() {
-    let place = place("refused", "echo 'rt: one NOT PROVED'; exit 1");
-    write(&place.join("repository/target/bin/bench"), "#!/bin/sh\necho old\n");
+    let place = place("refused", "echo 'rt: one NOT PROVED' >&2; exit 1");
+    let old = place.join("repository/crates/bench/out/bench");
+    write(&old, "#!/bin/sh\necho old\n");
+    let old = fs::File::options().write(true).open(old).unwrap();
+    old.set_modified(SystemTime::now() - Duration::from_secs(5)).unwrap();
     let output = bench(&place, &["list"]);
     let (told, said) = texts(&output);
     assert_eq!((output.status.code(), told.as_str()), (Some(1), ""));
@@ -103,10 +103,10 @@ fn it_helps_and_tells_wrong_words_from_a_missing_kit() {
         assert_eq!(bench(&place, words).status.code(), Some(2), "{words:?}");
     }
     assert_eq!(bench(&place, &["no-such-list"]).status.code(), Some(1));
-    fs::rename(place.join("kit/on"), place.join("kit/off")).unwrap();
+    write(&place.join("kit/machine/uname"), "#!/bin/sh\necho a-strange-one\n");
     let output = bench(&place, &["list"]);
     assert_eq!(output.status.code(), Some(2));
-    assert!(texts(&output).1.contains("nothing for this machine"));
+    assert!(texts(&output).1.contains("for this machine, a-strange-one"));
     fs::remove_dir_all(place.join("kit")).unwrap();
     let output = bench(&place, &["list"]);
     assert_eq!(output.status.code(), Some(2));

@@ -1,16 +1,12 @@
 # Sourced by door.sh, fuzz.sh and cost.sh at the repository's root: what they have in common, the library and a compiler for it.
 #
-# LIB names a library that is built already. Without it, it becomes target/staticlib/libdoor.a, which the kit (rt, or what RT names) proves
-# and builds where it is missing or older than its sources: so a gate that runs all three builds it once.
+# LIB names a library that is built already. Without it, it becomes target/staticlib/libdoor.a, which scripts/libdoor.sh builds where it is
+# missing or older than its sources: so a gate that runs all three builds it once.
 # On a machine that is not x86-64, `tools` is what the names of the cross tools begin with, and `run` what runs their programs.
 
 if [ -z "${LIB:-}" ]; then
+  scripts/libdoor.sh
   LIB=$PWD/target/staticlib/libdoor.a
-  if [ ! -f "$LIB" ] || [ -n "$(find crates.txt crates/*/{src,specs,proofs} -newer "$LIB" -print -quit 2>/dev/null)" ]; then
-    (cd crates/door_c && "${RT:-rt}" lib) >&2
-    mkdir -p "${LIB%/*}"
-    cp crates/door_c/out/libdoor_c.a "$LIB"
-  fi
 fi
 
 tools= static= run=()

@@ -25,9 +25,9 @@ standing t place zero e =
 standing t place (suc n) e =
     rw (drop-cons t place fresh_record (omega arith)) (ap (λ l. get_or t place fresh_record ∷ l) (standing t (suc place) n (omega arith)))
 
-pub in_order : (t : List Record) → length t ≡ 5 → in_order t ≡ t
+pub in-order : (t : List Record) → length t ≡ 5 → in_order t ≡ t
 unfolding upwards
-in_order t e = standing t 0 5 (sym e)
+in-order t e = standing t 0 5 (sym e)
 
 below : (from n place : ℕ) → Memᴰ place (upwards from n) → place < from + n
 unfolding upwards

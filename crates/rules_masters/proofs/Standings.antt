@@ -24,11 +24,10 @@ use Rattle.rules_masters.specs.declared.admission.Admitted.{Admitted}
 use Rattle.rules_masters.specs.declared.admission.Answer.TheVariants.{Refused, Renewed, Entered}
 use Rattle.rules_masters.specs.Records.{interval_of, live_of, known_of, fresh_record, entered_of, renewed_of}
 use Rattle.rules_masters.specs.Places.{place_of, count_of}
-use Rattle.rules_masters.specs.Choosing.{in_order}
 use Rattle.rules_masters.specs.Admitting.{standing_of, home, is_known, free, is_full, table_due, standings_in, accepted_of, admitted_by, admitted_of}
 use Rattle.rules_masters.specs.Inner.{barred_of, seated_of, new_seat, free_seat, seat_among, seat_of, seat_in, settled_of}
 use Rattle.rules_masters.proofs.Barring.{two-parts, clear-table}
-use Rattle.rules_masters.proofs.Order.{in_order}
+use Rattle.rules_masters.proofs.Order.{in-order}
 use Rattle.rules_masters.proofs.Placing.{room, no_room, absent}
 
 -- ---- of a table's records
@@ -88,6 +87,10 @@ seat-small a b c d e = among-small (a ∷ b ∷ c ∷ d ∷ e ∷ [])
 pub seat-in-small : (t : List Record) (sender : Port) (sequence now interval : ℕ) → (seat_in t sender sequence now interval).at < 5
 unfolding seat_in
 seat-in-small t sender sequence now interval = seat-small _ _ _ _ _
+
+-- as the code has it: a seat that is that one
+pub seat_small : (s : Seat) (t : List Record) (sender : Port) (sequence now interval : ℕ) → s ≡ seat_in t sender sequence now interval → s.at < 5
+seat_small s t sender sequence now interval e = rw e (seat-in-small t sender sequence now interval)
 
 -- .. and all five are live exactly where no place is free
 module _ (l : List Standing) (five : length l ≡ 5) where
@@ -153,7 +156,7 @@ module _ (t : Table) (m : Announce) (interval now : ℕ) (five : length t.record
   pub seat-settles : settled_of (seat_in T m.header.source m.header.sequence now interval) t m now ≡ seated_of t m interval now
   unfolding seat_in seat_of
   seat-settles =
-      subst (λ (l : List Record). settled_of (seat_among (map (S m interval now) l)) t m now ≡ seated_of t m interval now) (sym (in_order T five)) among-settles
+      subst (λ (l : List Record). settled_of (seat_among (map (S m interval now) l)) t m now ≡ seated_of t m interval now) (sym (in-order T five)) among-settles
 
   -- as the code has it: a seat that is that one
   pub seat-settled : (s : Seat) → s ≡ seat_in T m.header.source m.header.sequence now interval → settled_of s t m now ≡ seated_of t m interval now

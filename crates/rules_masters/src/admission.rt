@@ -27,6 +27,7 @@ pub struct Admitted {
 }
 
 // Bit 0 of octet 6 (rule 2.3) is bit 8 of the two octets of flags.
+#[tactic(auto, unfolding(crate::specs::Admitting::alternate_of))]
 fn alternate(announce: Announce) -> bool
     ensures { result ≡ alternate_of announce }
 {
@@ -34,6 +35,7 @@ fn alternate(announce: Announce) -> bool
 }
 
 // The refusals that need no table, in the order of rule 3.56.
+#[tactic(auto, unfolding(numbers::specs::Grounds::first_of), using(numbers::proofs::Grounds::tested))]
 pub fn barred(announce: Announce, domain: u8, own: Port, last: u64, now: u64) -> Ruling
     ensures { result ≡ barred_of announce domain own last now }
 {
@@ -56,6 +58,7 @@ pub fn barred(announce: Announce, domain: u8, own: Port, last: u64, now: u64) ->
 }
 
 // The seat that the table has for an Announce; each record is read once.
+#[tactic(auto, unfolding(crate::specs::Inner::seat_in))]
 fn seat_in(table: Table, sender: Port, sequence: u16, now: u64, interval: u32) -> Seat
     ensures { result ≡ seat_in table.records sender sequence now interval }
 {
@@ -74,6 +77,7 @@ fn seat_in(table: Table, sender: Port, sequence: u16, now: u64, interval: u32) -
 }
 
 // The refusals that look into the table; an Announce that none of them meets takes its place there.
+#[tactic(auto, using(crate::proofs::Standings::seat_small))]
 fn settle(mut table: Table, announce: Announce, interval: u32, now: u64) -> Admitted
     ensures { result ≡ seated_of table announce interval now }
 {

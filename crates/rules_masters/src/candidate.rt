@@ -20,6 +20,7 @@ pub struct Candidate {
 }
 
 impl Record {
+    #[tactic(auto, unfolding(crate::specs::Inner::candidate_of))]
     pub fn candidate(self, now: u64, interval: u32) -> Candidate
         ensures { result ≡ candidate_of now interval self }
     {

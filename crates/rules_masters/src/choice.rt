@@ -11,6 +11,7 @@ use crate::table::Table;
 use wire_layout::message::Port;
 
 // One step of the choice. One that is not qualified stands for none.
+#[tactic(auto, unfolding(crate::specs::Inner::kept_of))]
 fn keep(held: Candidate, next: Candidate) -> Candidate
     ensures { result ≡ kept_of held next }
 {

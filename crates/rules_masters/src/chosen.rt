@@ -66,6 +66,7 @@ impl Chosen {
     }
 
     // From one to the other there is no new or lost master.
+    #[tactic(auto, unfolding(crate::specs::Holding::same_master_of))]
     pub fn same_master(self, other: Chosen) -> bool
         ensures { result ≡ same_master_of self other }
     {
@@ -86,6 +87,7 @@ impl Chosen {
     }
 
     // The sender is the chosen master. Where not: NOT_MASTER.
+    #[tactic(auto, unfolding(crate::specs::Holding::is_master))]
     pub fn is_master(self, sender: Port) -> bool
         ensures { result ≡ is_master self sender }
     {

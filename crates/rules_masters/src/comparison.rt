@@ -6,6 +6,7 @@ ghost use Rattle.rules_masters.specs.Inner.{merits_in, nearness_in, beats_of};
 use crate::candidate::Candidate;
 
 // Which of two grandmasters wins.
+#[tactic(auto, unfolding(crate::specs::Comparison::smaller))]
 fn finer(a: Candidate, b: Candidate) -> bool
     ensures { result ≡ smaller (merits_in a) (merits_in b) }
 {
@@ -28,6 +29,7 @@ fn finer(a: Candidate, b: Candidate) -> bool
 }
 
 // Which of two ways to one grandmaster wins.
+#[tactic(auto, unfolding(crate::specs::Comparison::smaller))]
 fn nearer(a: Candidate, b: Candidate) -> bool
     ensures { result ≡ smaller (nearness_in a) (nearness_in b) }
 {
@@ -41,6 +43,7 @@ fn nearer(a: Candidate, b: Candidate) -> bool
 }
 
 // a is better than b.
+#[tactic(auto, unfolding(crate::specs::Inner::beats_of))]
 pub fn better(a: Candidate, b: Candidate) -> bool
     ensures { result ≡ beats_of a b }
 {

@@ -47,6 +47,7 @@ fn within(now: u64, arrival: u64, span: u64) -> bool
 }
 
 // The key of the table: the whole port identity.
+#[tactic(auto, unfolding(crate::specs::Records::same_key_of))]
 pub fn same_key(a: Port, b: Port) -> bool
     ensures { result ≡ same_key_of a b }
 {
@@ -143,6 +144,7 @@ impl Record {
     }
 
     // Its newer arrival is no more than 4 intervals ago (rule 5.4).
+    #[tactic(auto, unfolding(crate::specs::Records::live_of))]
     pub fn live(self, now: u64, interval: u32) -> bool
         ensures { result ≡ live_of now interval self }
     {
@@ -153,6 +155,7 @@ impl Record {
     }
 
     // Two arrivals, the older no more than 4 intervals ago and the newer no more than 3 (rule 5.8).
+    #[tactic(auto, unfolding(crate::specs::Records::qualified_of))]
     pub fn qualified(self, now: u64, interval: u32) -> bool
         ensures { result ≡ qualified_of now interval self }
     {

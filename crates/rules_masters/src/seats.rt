@@ -37,6 +37,7 @@ fn taken(at: usize) -> Seat
 }
 
 // Each is whether a place is live: a new sender takes the first that is not.
+#[tactic(auto, unfolding(crate::specs::Places::place_of))]
 fn free(a: bool, b: bool, c: bool, d: bool, e: bool) -> Seat
     ensures { result ≡ free_seat Refusal.Full (place_of not (a ∷ b ∷ c ∷ d ∷ e ∷ [])) }
 {
@@ -63,6 +64,7 @@ fn free(a: bool, b: bool, c: bool, d: bool, e: bool) -> Seat
 }
 
 // The five in table order.
+#[tactic(auto, unfolding(numbers::specs::Grounds::first_of, crate::specs::Places::place_of, crate::specs::Admitting::is_repeat, crate::specs::Admitting::is_full, crate::specs::Inner::seat_of))]
 pub fn seat(a: Standing, b: Standing, c: Standing, d: Standing, e: Standing) -> Seat
     ensures { result ≡ seat_of a b c d e }
 {

@@ -23,6 +23,7 @@ pub struct Seat {
 }
 
 impl Record {
+    #[tactic(auto, unfolding(crate::specs::Records::known_of, crate::specs::Admitting::standing_of))]
     pub fn stands(self, sender: Port, sequence: u16, now: u64, interval: u32) -> Standing
         ensures { result ≡ standing_of sender sequence now interval self }
     {

@@ -26,7 +26,7 @@ use Rattle.rules_masters.specs.Choosing.{those, choice_among, in_order, choice_o
 use Rattle.rules_masters.specs.Holding.{chosen_at}
 use Rattle.rules_masters.proofs.Barring.{clear-announce}
 use Rattle.rules_masters.proofs.Placing.{place-holds, has_room, absent, opposite}
-use Rattle.rules_masters.proofs.Order.{in_order}
+use Rattle.rules_masters.proofs.Order.{in-order}
 use Rattle.rules_masters.proofs.Standings.{home_same as known-asked, free-same as free-asked, live_same as live-asked, repeat-same as repeat-asked}
 use Rattle.story_lists.specs.Reading.{all, with_it}
 use Rattle.story_masters.specs.Announces.{Log, came, passed, last_now, Arrival, sender_of, arrivals_at, places, is_home, better_announce}
@@ -49,7 +49,7 @@ module _ (interval : ℕ) (l : Log) (k : Memory) (h : Tells interval l k) where
   in-places = (h.seats 0, (h.seats 1, (h.seats 2, (h.seats 3, (h.seats 4, tt)))))
 
   alike : Alike (last_now l) interval (places l) T
-  alike = subst (λ (t : List Record). Alike (last_now l) interval (places l) t) (in_order T h.five) in-places
+  alike = subst (λ (t : List Record). Alike (last_now l) interval (places l) t) (in-order T h.five) in-places
 
   -- ---- an Announce
   module _ (m : Announce) (now : ℕ) where

@@ -1,4 +1,4 @@
--- `smaller`, number by number: what the code's tests say of it, and that it is a strict order on lists of one length.
+-- `smaller`, number by number, and that it is a strict order on lists of one length.
 use mathlib.Core.Path.{◌≡◌, refl, sym, ◌∙◌}
 use mathlib.Core.Bool.{Bool, true, false, cond, false≢true}
 use mathlib.Core.Logic.{◌⊎◌, inl, inr}
@@ -7,7 +7,7 @@ use Prim.Native.Nat.{ℕ, ◌<◌, ◌≤◌}
 use native.Mathlib.Omega.{arith}
 use lib.Dec.{ltb, eqb}
 use lib.ListN.{length}
-use borrow.Author.Tests.{eq-eqb, ne_eqb, eqb-true, eqb-false, lt-ltb, le-ltb, ltb-true, ltb-false}
+use borrow.Author.Tests.{eq-eqb, ne_eqb, eqb-true, eqb-false, lt-ltb, ltb-true, ltb-false}
 use Rattle.rules_masters.specs.Comparison.{smaller}
 
 -- equal numbers leave the answer to the rest
@@ -19,17 +19,6 @@ skip x y xs ys r e h = rw (eq-eqb x y e) h
 pub differ : (x y : ℕ) (xs ys : List ℕ) → (x ≡ y → ⊥) → ltb x y ≡ smaller (x ∷ xs) (y ∷ ys)
 unfolding smaller
 differ x y xs ys n = rw (ne_eqb x y n)
-
--- the last ones decide in any case
-last-by : (t : Bool) (x y : ℕ) → eqb x y ≡ t → ltb x y ≡ cond t false (ltb x y)
-last-by true x y e = le-ltb x y (omega (arith, eqb-true x y e))
-last-by false x y e = refl
-
-pub last : (x y : ℕ) → ltb x y ≡ smaller (x ∷ []) (y ∷ [])
-unfolding smaller
-last x y = last-by (eqb x y) x y refl
-
-pub ruleset decided = (last, differ, skip)
 
 -- `smaller` is a strict order on lists of one length
 

@@ -16,6 +16,7 @@ use wire_layout::suffix::whole;
 use wire_octets::{signed8, signed16, signed64, u16_at, u32_at, u48_at, u64_at};
 
 // Fields where they lie. Each asks that its octets are there.
+#[tactic(auto, unfolding(wire_layout::specs::Positions::port_at))]
 pub fn port_at(s: &[u8], at: usize) -> Port
     requires { at + 10 ≤ length s.now }
     ensures { result ≡ port_at at s.now }
@@ -26,6 +27,7 @@ pub fn port_at(s: &[u8], at: usize) -> Port
     }
 }
 
+#[tactic(auto, unfolding(wire_layout::specs::Positions::header_of))]
 pub fn header_of(s: &[u8]) -> Header
     requires { 34 ≤ length s.now }
     ensures { result ≡ header_of s.now }
@@ -48,6 +50,7 @@ pub fn header_of(s: &[u8]) -> Header
     }
 }
 
+#[tactic(auto, unfolding(wire_layout::specs::Positions::stamp_at))]
 pub fn stamp_at(s: &[u8], at: usize) -> Stamp
     requires { at + 10 ≤ length s.now }
     ensures { result ≡ stamp_at at s.now }
@@ -58,6 +61,7 @@ pub fn stamp_at(s: &[u8], at: usize) -> Stamp
     }
 }
 
+#[tactic(auto, unfolding(wire_layout::specs::Positions::offer_of))]
 pub fn offer_of(s: &[u8]) -> Offer
     requires { 64 ≤ length s.now }
     ensures { result ≡ offer_of s.now }

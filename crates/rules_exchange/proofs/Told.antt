@@ -6,7 +6,6 @@ use lib.Dec.{eqb}
 use lib.IntN.{ℤ, ◌+ℤ◌}
 use Rattle.numbers.specs.Grounds.{first_of}
 use Rattle.numbers.specs.declared.stamp.Stamp.{Stamp}
-use Rattle.numbers.specs.declared.refusal.Refusal.{Refusal}
 use Rattle.numbers.specs.declared.refusal.Refusal.TheVariants.{Correction, Unmatched}
 use Rattle.numbers.specs.declared.ruling.Ruling.TheVariants.{Clear, Barred}
 use Rattle.wire_layout.specs.declared.message.Port.{Port}
@@ -18,7 +17,7 @@ use Rattle.rules_exchange.specs.Halves.{SyncHalf, no_sync, awaits, knows, Reques
 use Rattle.rules_exchange.specs.Inner.{sync_waits_for, waits, sync_complete, request_waits_for, pends, request_complete, partners, partners_of}
 use Rattle.rules_measure.specs.Measure.{forward_of, back_of}
 use Rattle.rules_exchange.specs.Table.{Event, sync, follow_up, requested, sent, delay_resp, Row, unmatched, puts_sync, puts_request, measures, row_by, same_port}
-use Rattle.rules_exchange.specs.Events.{told, tells_of, stamp, local, correction_of, correction_in, row_of, unmatched_of, is_unmatched, grounds_of, unless_barred, said_with, refused, with_sync, with_request, stamp_taken, finished, follows}
+use Rattle.rules_exchange.specs.Events.{told, tells_of, stamp, local, correction_of, correction_in, row_of, is_unmatched, unless_barred, said_with, refused, with_sync, with_request, stamp_taken, finished, follows}
 use Rattle.rules_delays.proofs.Tests.{never}
 
 -- ---- a refusal that is due, or what the row says

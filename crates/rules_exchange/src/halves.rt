@@ -75,6 +75,7 @@ impl Sync {
     }
 
     // A Follow_Up of this sequenceId gives t1.
+    #[tactic(auto, unfolding(crate::specs::Halves::sync_half))]
     pub(crate) fn waits_for(self, sequence: u16) -> bool
         ensures { result ≡ sync_waits_for self sequence }
     {
@@ -90,6 +91,7 @@ impl Sync {
     }
 
     // t1 and t2 are there.
+    #[tactic(auto, unfolding(crate::specs::Halves::sync_half))]
     pub(crate) fn complete(self) -> bool
         ensures { result ≡ sync_complete self }
     {
@@ -111,6 +113,7 @@ impl Request {
     }
 
     // t3 is given for this sequenceId.
+    #[tactic(auto, unfolding(crate::specs::Halves::request_half))]
     pub(crate) fn waits_for(self, sequence: u16) -> bool
         ensures { result ≡ request_waits_for self sequence }
     {
@@ -126,6 +129,7 @@ impl Request {
     }
 
     // t3 is there, and a Delay_Resp of this sequenceId answers.
+    #[tactic(auto, unfolding(crate::specs::Halves::request_half))]
     pub(crate) fn complete(self, sequence: u16) -> bool
         ensures { result ≡ request_complete self sequence }
     {

@@ -58,6 +58,7 @@ pub struct Answered {
 
 impl Last {
     // BACK: t is below the last local stamp.
+    #[tactic(auto, unfolding(crate::specs::Events::is_above))]
     pub fn is_above(self, t: Stamp) -> bool
         ensures { result ≡ is_above self t }
     {

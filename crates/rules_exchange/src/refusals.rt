@@ -24,6 +24,7 @@ pub(crate) fn correction(c: i64) -> bool
     65_536_000_000_000 <= magnitude(c)
 }
 
+#[tactic(auto, unfolding(crate::specs::Table::same_port))]
 fn same_port(a: Port, b: Port) -> bool
     ensures { result ≡ same_port a b }
 {

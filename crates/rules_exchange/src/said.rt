@@ -102,6 +102,7 @@ impl Said {
 // The events.
 impl Exchange {
     // The stamp is taken, and `next` is what the exchange becomes by it; or it is BACK, and nothing is taken.
+    #[tactic(auto, unfolding(crate::specs::Events::stamp_taken))]
     fn take_stamp(self, mut next: Exchange, t: Stamp, said: Said) -> Answered
         ensures { result ≡ stamp_taken (stamp t) said self next }
     {
@@ -212,6 +213,7 @@ impl Exchange {
 // The verdicts. Each finished measurement gets one of them.
 impl Exchange {
     // One HUGE more: the unit is faulty after three in a row (rule 7.16).
+    #[tactic(auto, unfolding(crate::specs::Events::huge_again))]
     fn huge_again(mut self) -> Answered
         ensures { result ≡ huge_again self }
     {
@@ -225,6 +227,7 @@ impl Exchange {
     }
 
     // One PATH more: the third in a row wipes.
+    #[tactic(auto, unfolding(crate::specs::Events::path_again))]
     fn path_again(mut self) -> Answered
         ensures { result ≡ path_again self }
     {
@@ -270,6 +273,7 @@ impl Exchange {
     }
 
     // HUGE before PATH.
+    #[tactic(auto, unfolding(crate::specs::Events::judged))]
     fn judge(self, forward: Nanoseconds, delay: u32) -> Answered
         ensures { result ≡ judged self forward.0 delay }
     {

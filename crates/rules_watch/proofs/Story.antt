@@ -7,7 +7,7 @@ use native.Mathlib.Decide.{dec_le}
 use native.Mathlib.Omega.{arith}
 use borrow.Author.Tests.{le-leb, lt-leb, leb-false}
 use lib.Dec.{leb, ltb}
-use lib.IntN.{ℤ, pos, nat_abs, ◌-ℤ◌}
+use lib.IntN.{ℤ, nat_abs, ◌-ℤ◌}
 use lib.Signed.{le_z}
 use lib.ListN.{length, drop, length-append}
 use Rattle.numbers.specs.declared.refusal.Refusal.TheVariants.{Tick}
@@ -136,7 +136,8 @@ good-keeps {t} {h} {w} g reference clock = rw (good-takes g reference clock) (go
 -- any list of pulses
 pub good-played : {t : WatchSettings} {h : Since} {w : Watch} → Good t h w → (l : List Stamps) → Good t (since_after t h l) (watch_after t w l)
 good-played g [] = g
-good-played g (p ∷ l) = good-played (good-keeps g p.reference p.clock) l
+good-played {t} {h} {w} g (p ∷ l) =
+    good-played {t = t} {h = since_by h (outcome t h p.reference p.clock)} {w = next_watch (taken_of t w p.reference p.clock)} (good-keeps g p.reference p.clock) l
 
 pub good-line : {t : WatchSettings} {h : Since} {w : Watch} → Good t h w → watch_line t w ≡ line_since t h
 good-line {t} {h} {w} g = rw (g.holds, g.counts, reach (wait_of t) (length h.samples) (omega arith))

@@ -34,6 +34,7 @@ fn utc_bits(o: Offer) -> u16
 }
 
 // Each part as its octets. The header in front of its source's port identity:
+#[tactic(auto, unfolding(wire_layout::specs::Writing::front_bits, wire_octets::specs::Octets::big_endian))]
 fn front_octets(h: Header, kind: u8, len: u16) -> [u8; 20]
     requires { (h.sdo < 16) × (h.minor < 16) × (kind < 16) }
     ensures { result ≡ front_octets h kind len }
@@ -66,6 +67,7 @@ fn front_octets(h: Header, kind: u8, len: u16) -> [u8; 20]
 }
 
 // The header behind it.
+#[tactic(auto, unfolding(wire_layout::specs::Writing::back_bits, wire_octets::specs::Octets::big_endian))]
 fn back_octets(h: Header) -> [u8; 4]
     ensures { result ≡ back_octets h }
 {
@@ -79,6 +81,7 @@ fn back_octets(h: Header) -> [u8; 4]
     ]
 }
 
+#[tactic(auto, unfolding(wire_layout::specs::Writing::stamp_octets, wire_octets::specs::Octets::big_endian))]
 fn stamp_octets(t: Stamp) -> [u8; 10]
     ensures { result ≡ stamp_octets t }
 {
@@ -98,6 +101,7 @@ fn stamp_octets(t: Stamp) -> [u8; 10]
     ]
 }
 
+#[tactic(auto, unfolding(wire_layout::specs::Writing::port_octets, wire_octets::specs::Octets::big_endian))]
 fn port_octets(p: Port) -> [u8; 10]
     ensures { result ≡ port_octets p }
 {
@@ -117,6 +121,7 @@ fn port_octets(p: Port) -> [u8; 10]
     ]
 }
 
+#[tactic(auto, unfolding(wire_layout::specs::Writing::offer_bits, wire_octets::specs::Octets::big_endian))]
 fn offer_octets(o: Offer) -> [u8; 20]
     ensures { result ≡ offer_octets o }
 {
@@ -183,6 +188,7 @@ fn put_body(out: &mut [u8], b: Body)
 }
 
 // No FIELD.
+#[tactic(auto, unfolding(wire_layout::specs::Writing::fields_fit))]
 fn fields_fit(h: Header, t: Stamp) -> bool
     ensures { result ≡ fields_fit h t }
 {

@@ -1,21 +1,48 @@
 // Text, gathered in a lent buffer. Each function puts its text behind the `at` octets that are there and answers how many there are
-// then, never more than the buffer has; where the buffer is full it is written out first.
+// then, never more than the buffer has; where the buffer is full it is written out first. `Out::done` tells of a write that failed.
 #![tactic(auto)]
 
 pub mod messages;
 
 ghost use Rattle.std.specs.Prelude.{◌≡◌, ◌≤◌, ◌<◌};
 
-use libc::STDOUT_FILENO;
+use std::io;
+use std::io::Stdout;
 
-pub type Out = [u8; 65_536];
+// The buffer, where it is written out to, and the first write that failed: nothing is written behind it.
+#[derive(Drop)]
+pub struct Out {
+    octets: [u8; 65_536],
+    to: Stdout,
+    failed: Option<io::Error>,
+}
+
+impl Out {
+    pub fn new(to: Stdout) -> Out {
+        Out {
+            octets: [0; 65_536],
+            to,
+            failed: None,
+        }
+    }
+
+    // Whether all that was to be written out was.
+    pub fn done(&self) -> io::Result<()> {
+        match self.failed {
+            Some(e) => Err(e),
+            None => Ok(()),
+        }
+    }
+}
 
 // The gathered octets are written out: none are left.
-pub fn flush(out: &[u8], at: usize) -> usize
+pub fn flush(out: &mut Out, at: usize) -> usize
     ensures { result ≡ 0 }
 {
-    if at <= out.len() {
-        io::write_all(STDOUT_FILENO, &out[0..at]);
+    if at <= 65_536 {
+        if out.failed.is_none() {
+            out.failed = out.to.write_all(&out.octets[..at]).err();
+        }
     }
     0
 }
@@ -24,11 +51,11 @@ fn octet(out: &mut Out, at: usize, b: u8) -> usize
     ensures { result ≤ 65_536 }
 {
     if at < 65_536 {
-        out[at] = b;
+        out.octets[at] = b;
         return at + 1;
     }
     flush(out, at);
-    out[0] = b;
+    out.octets[0] = b;
     1
 }
 
@@ -80,9 +107,8 @@ pub fn field32(out: &mut Out, at: usize, name: &[u8], n: u32) -> usize
 fn decimal(out: &mut Out, at: usize, n: u64) -> usize
     ensures { result ≤ 65_536 }
 {
-    let mut digits = [0u8; 20];
-    let k = io::decimal(n, &mut digits);
-    text(out, at, &digits[..k])
+    let mut digits = itoa::Buffer::new();
+    text(out, at, digits.format(n).as_bytes())
 }
 
 // A signed number behind its name.
@@ -120,10 +146,8 @@ pub fn signed_field32(out: &mut Out, at: usize, name: &[u8], n: i32) -> usize
 pub fn identity_field(out: &mut Out, at: usize, name: &[u8], n: u64) -> usize
     ensures { result ≤ 65_536 }
 {
-    let mut digits = [0u8; 16];
-    let k = io::hex(n, 16, &mut digits);
     let end = text(out, at, name);
-    text(out, end, &digits[..k])
+    hex_octets(out, end, &n.to_be_bytes())
 }
 
 fn hex_digit(d: u8) -> u8
@@ -139,18 +163,26 @@ fn hex_octet(out: &mut Out, at: usize, b: u8) -> usize
     octet(out, end, hex_digit(b % 16))
 }
 
-// Octets in hex behind their name; `-` means none.
-pub fn octets_field(out: &mut Out, at: usize, name: &[u8], t: &[u8]) -> usize
+// Octets in hex, two digits each.
+fn hex_octets(out: &mut Out, at: usize, t: &[u8]) -> usize
     ensures { result ≤ 65_536 }
 {
-    let mut end = text(out, at, name);
-    if t.len() == 0 {
-        return octet(out, end, b'-');
-    }
+    let mut end = place(at);
     let mut i = 0;
     while i < t.len() {
         end = hex_octet(out, end, t[i]);
         i += 1;
     }
     end
+}
+
+// Octets in hex behind their name; `-` means none.
+pub fn octets_field(out: &mut Out, at: usize, name: &[u8], t: &[u8]) -> usize
+    ensures { result ≤ 65_536 }
+{
+    let end = text(out, at, name);
+    if t.len() == 0 {
+        return octet(out, end, b'-');
+    }
+    hex_octets(out, end, t)
 }

@@ -1,10 +1,9 @@
 -- The unit's own Delay_Req, and what both round trips answer and leave.
-use Rattle.std.specs.Prelude.{List, ◌++◌, ℕ, ◌+◌, ltb, pos, length, take, drop, cond}
+use Rattle.std.specs.Prelude.{List, ◌++◌, ℕ, ltb, pos, take, drop, cond}
 use Rattle.numbers.specs.declared.refusal.Refusal.TheVariants.{Room}
 use Rattle.numbers.specs.Stamps.{no_stamp}
 use Rattle.wire_layout.specs.declared.message.Port.{Port}
 use Rattle.wire_layout.specs.declared.message.Message.{Message}
-use Rattle.wire_layout.specs.declared.message.Part.{Part}
 use Rattle.wire_layout.specs.declared.message.Body.TheVariants.{DelayReq}
 use Rattle.wire_layout.specs.declared.message.Read.{Read}
 use Rattle.wire_layout.specs.declared.message.Read.TheVariants.{Got, Refused}

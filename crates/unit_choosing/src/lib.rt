@@ -43,6 +43,7 @@ fn hold(mut core: Core, servo: Servo, chosen: Chosen, now: u64) -> Moved
 }
 
 // The table has answered; this is the table after it.
+#[tactic(auto, unfolding(crate::specs::Choosing::chooses))]
 fn admitted(core: Core, servo: Servo, table: Table, now: u64, answer: admission::Answer) -> Moved
     ensures { result ≡ moved_by core servo (admits core.settings (stays_of core) (progress_of core servo) table now answer) }
 {
@@ -58,6 +59,7 @@ fn admitted(core: Core, servo: Servo, table: Table, now: u64, answer: admission:
 }
 
 // An Announce: its refusals are the table's, then the choice.
+#[tactic(auto, unfolding(crate::specs::Choosing::announces))]
 pub fn announce(core: Core, servo: Servo, table: Table, now: u64, m: Announce) -> Seated
     ensures { result ≡ record { table = (admission core.settings (stays_of core) table now m).table; moved = moved_by core servo (announces core.settings (stays_of core) (progress_of core servo) table now m) } }
 {
@@ -81,6 +83,7 @@ pub fn announce(core: Core, servo: Servo, table: Table, now: u64, m: Announce) -
 }
 
 // What bars the bare time call: NOW alone. `last` is the unit's now.
+#[tactic(auto, unfolding(numbers::specs::Grounds::first_of), using(numbers::proofs::Grounds::tested))]
 pub fn time_barred(last: u64, now: u64) -> Ruling
     ensures { result ≡ first_of (of_time (time_due last now)) }
 {
@@ -91,6 +94,7 @@ pub fn time_barred(last: u64, now: u64) -> Ruling
 }
 
 // The bare time call.
+#[tactic(auto, unfolding(crate::specs::Choosing::chooses, crate::specs::Choosing::time_passes))]
 pub fn time(core: Core, servo: Servo, table: Table, now: u64) -> Moved
     ensures { result ≡ moved_by core servo (time_passes core.settings (stays_of core) (progress_of core servo) table now) }
 {

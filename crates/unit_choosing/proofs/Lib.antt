@@ -1,2 +1,0 @@
--- What the calls that choose cite.
-mod Unrefused

@@ -77,6 +77,7 @@ fn either_field(t1: Stamp, t2: Stamp) -> bool
 
 // 3 of a kind that is not heard, before all else; then those that come before the exchange's own. FIELD is asked of the message's own stamp too: whoever
 // hands over a struct has not had it read.
+#[tactic(auto, unfolding(numbers::specs::Grounds::first_of))]
 pub fn message_barred(core: Core, now: u64, t2: Stamp, header: Header, body: Body) -> Ruling
     ensures { result ≡ first_of (message_grounds core.settings (stays_of core) now t2 header body) }
 {

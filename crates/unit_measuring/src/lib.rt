@@ -24,6 +24,7 @@ use unit_core::{Core, Moved};
 
 // 5, 9 and 18 of any call of the exchange, in their order. What else bars a message stands in hearing, and what else bars a call of the unit's own in
 // asking.
+#[tactic(auto, unfolding(numbers::specs::Grounds::first_of))]
 fn barred(core: Core, now: u64, field: bool) -> Ruling
     ensures { result ≡ first_of (of_exchange (call_due (stays_of core) now field)) }
 {
@@ -85,6 +86,7 @@ fn steer(
 }
 
 // By what the answer does, and not answer by answer.
+#[tactic(auto, unfolding(crate::specs::Measuring::by_said))]
 fn follow(core: Core, servo: Servo, now: u64, next: Exchange, said: Said) -> Moved
     ensures { result ≡ moved_by core servo (by_said core.settings (with_now now (stays_of core)) (progress_of core servo) next said) }
 {

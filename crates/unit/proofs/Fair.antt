@@ -21,7 +21,6 @@ use Rattle.rules_masters.specs.declared.admission.Answer.TheVariants as answers
 use Rattle.rules_masters.specs.declared.chosen.Decision.{Decision}
 use Rattle.rules_masters.specs.Holding.{chosen_at, same_master_of}
 use Rattle.rules_exchange.specs.declared.Exchange.{Exchange}
-use Rattle.rules_exchange.specs.declared.said.Said.{Said}
 use Rattle.rules_exchange.specs.declared.said.Said.TheVariants as says
 use Rattle.rules_exchange.specs.declared.Answer.{Answer as Told}
 use Rattle.rules_exchange.specs.declared.Answer.TheVariants as tells

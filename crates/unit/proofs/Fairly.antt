@@ -4,15 +4,12 @@ use mathlib.Core.Bool.{cond}
 use Prim.Native.Nat.{ℕ, ◌+◌, ◌≤◌}
 use native.Mathlib.Omega.{arith}
 use lib.IntN.{ℤ}
-use types.Run.{OneOf}
-use mathlib.Core.List.{[], ◌∷◌}
-use denote.Enum.Declared.{tag_of}
 use Rattle.numbers.specs.Integers.{up}
 use Rattle.numbers.specs.declared.stamp.Stamp.{Stamp}
 use Rattle.wire_layout.specs.declared.message.Header.{Header}
 use Rattle.wire_layout.specs.declared.message.Body.{Body}
 use Rattle.wire_layout.specs.declared.message.Body.TheVariants as bodies
-use Rattle.wire_layout.specs.contracts.message.Body.{the_type}
+use Rattle.wire_layout.specs.declared.message.Offer.{Offer}
 use Rattle.rules_masters.specs.declared.table.Table.{Table}
 use Rattle.rules_watch.specs.declared.Drift.{Drift}
 use Rattle.rules_watch.specs.declared.Drift.TheVariants as drift
@@ -24,7 +21,6 @@ use Rattle.unit_core.specs.declared.calls.Call.TheVariants.{Receive, Request, Se
 use Rattle.unit_core.specs.Effects.{Stays, Progress, Effect, keeps, goes, takes, wipes, stays_of, progress_of, moved_by}
 use Rattle.unit_ticking.specs.Ticking.{sampled_by}
 use Rattle.unit_measuring.specs.Hearing.{hears}
-use Rattle.unit_measuring.proofs.Unheard.{not-announce}
 use Rattle.unit.proofs.Fair.{steering, Fair, fair-heard, fair-announce, fair-request, fair-sent, fair-time}
 use Rattle.unit.specs.declared.Unit.{Unit}
 use Rattle.unit.specs.Receiving.{receives, table_by}
@@ -80,11 +76,11 @@ module _ (c : Unit) where
       → stepped_with (moved_by c.core c.servo (unit_effect c call)) (unit_table c call) (cond (moved_by c.core c.servo (unit_effect c call)).wipes fresh_watch c.watch) ≡ step_of c call
   put-call call f = put (unit_table c call) (unit_effect c call) f
 
-  -- a message of any kind but the Announce, whose number is 4 among the kinds as they are declared
-  pub put-heard : (now : ℕ) (arrival : Stamp) (h : Header) (b : Body) → OneOf (0 ∷ 1 ∷ 2 ∷ 3 ∷ []) (tag_of the_type b)
+  -- a message of any kind but the Announce
+  pub put-heard : (now : ℕ) (arrival : Stamp) (h : Header) (b : Body) → ((stamp : Stamp) (offer : Offer) → b ≡ bodies.Announce stamp offer → ⊥)
       → stepped_after c (moved_by c.core c.servo (hears c.core.settings (stays_of c.core) (progress_of c.core c.servo) now arrival h b))
       ≡ applied c (table_by c.core.settings (stays_of c.core) c.table now h b) (receives c.core.settings (stays_of c.core) (progress_of c.core c.servo) c.table now arrival h b)
-  put-heard now arrival h (bodies.Announce stamp offer) o = absurd (not-announce o)
+  put-heard now arrival h (bodies.Announce stamp offer) o = absurd (o stamp offer refl)
   put-heard now arrival h (bodies.DelayReq stamp) o = let call = Receive now arrival (record { header = h; body = bodies.DelayReq stamp }) in put-call call (fair call)
   put-heard now arrival h (bodies.Sync t1) o = let call = Receive now arrival (record { header = h; body = bodies.Sync t1 }) in put-call call (fair call)
   put-heard now arrival h (bodies.FollowUp t1) o = let call = Receive now arrival (record { header = h; body = bodies.FollowUp t1 }) in put-call call (fair call)

@@ -1,6 +1,6 @@
 -- A refusal leaves the unit as it was, whatever its bits are.
 use mathlib.Core.Path.{◌≡◌, refl, sym, ◌∙◌, subst}
-use mathlib.Core.Bool.{Bool, true, false, cond}
+use mathlib.Core.Bool.{Bool, true, false}
 use Prim.Native.Nat.{ℕ}
 use lib.Dec.{T}
 use Rattle.numbers.specs.declared.stamp.Stamp.{Stamp}

@@ -1,6 +1,6 @@
 -- An answer says that the unit was wiped exactly where the call wipes.
 use mathlib.Core.Path.{◌≡◌, refl}
-use mathlib.Core.Bool.{Bool, true, false, cond}
+use mathlib.Core.Bool.{Bool, true, false}
 use Rattle.rules_watch.specs.Rules.{pulse_of}
 use Rattle.rules_watch.specs.Watch.{since_of}
 use Rattle.unit_core.specs.declared.calls.Call.{Call}

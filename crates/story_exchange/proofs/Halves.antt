@@ -14,8 +14,8 @@ use Rattle.rules_exchange.specs.declared.Last.{Last}
 use Rattle.rules_exchange.specs.declared.Exchange.{Exchange}
 use Rattle.rules_exchange.specs.declared.Answer.TheVariants.{Refused, Says}
 use Rattle.rules_exchange.specs.declared.said.Said.{Said}
-use Rattle.rules_exchange.specs.declared.said.Said.TheVariants.{Held, Paired, Asked, Stamped, Back}
-use Rattle.rules_exchange.specs.Halves.{SyncHalf, awaits, knows, RequestHalf, asked, stamped, sync_half, request_half, heard}
+use Rattle.rules_exchange.specs.declared.said.Said.TheVariants.{Held, Paired, Stamped, Back}
+use Rattle.rules_exchange.specs.Halves.{SyncHalf, knows, RequestHalf, asked, stamped, sync_half, request_half, heard}
 use Rattle.rules_exchange.specs.Table.{Event, sync, follow_up, requested, sent, puts_sync, puts_request, row_by, if-matching}
 use Rattle.rules_exchange.specs.Events.{said_with, refused, with_sync, with_request, with_last, stamp, no_local, is_above, stamp_taken, follows}
 use Rattle.rules_exchange.proofs.Promises.{sync-held, request-held}

@@ -1,5 +1,5 @@
 -- From fresh, after any history, the machine of the code gives the answer that the history gives, and its memory tells the log.
-use mathlib.Core.Path.{◌≡◌, refl}
+use mathlib.Core.Path.{◌≡◌}
 use mathlib.Core.List.{List, [], ◌∷◌}
 use mathlib.Core.Bool.{Bool, true, false, cond}
 use Rattle.numbers.specs.declared.refusal.Refusal.TheVariants.{Correction}

@@ -1,5 +1,4 @@
 -- The core that the unit's record tells, and the record that holds a core.
-use Rattle.numbers.specs.declared.stamp.Stamp.{Stamp}
 use Rattle.wire_layout.specs.declared.message.Port.{Port}
 use Rattle.rules_masters.specs.declared.chosen.Chosen.{Chosen}
 use Rattle.rules_watch.specs.declared.settings.WatchSettings.{WatchSettings}

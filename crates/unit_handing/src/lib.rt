@@ -26,6 +26,7 @@ fn delay_req(body: Body) -> bool
 }
 
 // A read message comes with the table. KIND of a Delay_Req is asked before SETTINGS of a table that is not of five.
+#[tactic(auto, unfolding(numbers::specs::Grounds::first_of, crate::specs::Handing::message_asked))]
 fn message(lent: usize, m: Message, time: u64, arrival: Stamp) -> Asked
     ensures { result ≡ message_asked lent m time arrival }
 {
@@ -50,6 +51,7 @@ pub fn receive(lent: usize, octets: &[u8], time: u64, arrival: Stamp) -> Asked
 }
 
 // The bare time call, with a table of so many records.
+#[tactic(auto, unfolding(numbers::specs::Grounds::first_of, crate::specs::Handing::time_asked))]
 pub fn time(lent: usize, time: u64) -> Asked
     ensures { result ≡ time_asked lent time }
 {

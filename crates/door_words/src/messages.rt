@@ -149,6 +149,7 @@ impl MessageWords {
     }
 
     // The message of its kind: one that is in no table is KIND.
+    #[tactic(auto, unfolding(crate::specs::Messages::by_kind))]
     fn kinded(self) -> Handed
         ensures { result ≡ by_kind self.kind self.header self.stamp self.requester self.offer }
     {
@@ -190,6 +191,7 @@ impl MessageWords {
     }
 
     // The message again. One that was refused in reading is none, of whatever number: what C puts there may be in no table.
+    #[tactic(auto, unfolding(crate::specs::Messages::message_by))]
     pub fn message(self) -> Handed
         ensures { result ≡ message_by self }
     {

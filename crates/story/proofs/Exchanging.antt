@@ -1,7 +1,7 @@
 -- A call that the exchange is told of: what each of its answers makes of the past and of the book.
 use mathlib.Core.Path.{◌≡◌, refl, sym, ap, ◌∙◌, subst}
-use mathlib.Core.List.{◌∷◌}
-use mathlib.Core.Option.{none, some}
+use mathlib.Core.List.{[], ◌∷◌}
+use mathlib.Core.Option.{Option, none, some}
 use mathlib.Core.Bool.{true, false}
 use Prim.Native.Nat.{ℕ, suc}
 use native.Mathlib.Omega.{arith}
@@ -36,8 +36,8 @@ use Rattle.story_exchange.proofs.Tells.{Tells as ExchangeTells, fresh-tells}
 use Rattle.story_exchange.proofs.Refines.{step as exchange-step}
 use Rattle.story_servo.proofs.Refines.{Tells as ServoTells, step as servo-step}
 use Rattle.story_masters.proofs.Refines.{Tells as SeatTells}
-use Rattle.story_lists.specs.Reading.{all, since}
-use Rattle.story.specs.Book.{Book, entry, a_wipe, a_now, a_request_call, a_pulse, an_exchange_entry, offset_by, then, said_by, chosen, faulty, sequence, stays_in, seats, exchange_log, offsets, ahead_first, samples_of}
+use Rattle.story_lists.specs.Reading.{all, since, unless-found}
+use Rattle.story.specs.Book.{Book, entry, a_wipe, since_wipe, a_now, a_request_call, a_pulse, an_offset, an_exchange_entry, offset_by, then, said_by, chosen, faulty, sequence, stays_in, seats, exchange_log, offsets, ahead_first, samples_of}
 use Rattle.story.specs.Saying.{output_of, unit_answer}
 use Rattle.story.proofs.Tells.{Tells, Agrees, fresh-servo}
 
@@ -60,6 +60,7 @@ module _ (s : Settings) (b : Book) (p : Past) (h : Tells s b p) where
       → SeatTells (interval_of s.announce) (seats s (entry call u ∷ b)) (record { table = t; last = k.now }) → Agrees s b p call t u (wipes u k)
   unfolding all since ahead_first samples_of
   wiped-tells call t u k r w st se =
+      let no-offsets : offsets (entry call u ∷ b) ≡ [] = ap (λ (o : Option Answer). all an_offset (unless-found o (entry call u ∷ since_wipe b))) w in
       record {
         says = refl;
         tells =
@@ -68,7 +69,7 @@ module _ (s : Settings) (b : Book) (p : Past) (h : Tells s b p) where
               stays = st;
               seats = se;
               exchange = rw w fresh-tells;
-              servo = rw w (fresh-servo s);
+              servo = rw no-offsets (fresh-servo s);
               measured = rw w;
               since = rw w;
               count = rw w (ap suc h.count);
@@ -90,7 +91,7 @@ module _ (s : Settings) (b : Book) (p : Past) (h : Tells s b p) where
           says = same-output said;
           tells =
               record {
-                stays = rw (f.nows u, y, f.requests u) f.stays;
+                stays = simp (f.nows u, y, f.requests u) f.stays;
                 seats = rw f.stays (f.seats u);
                 exchange = rw (w, f.enters u said refl) xt;
                 servo = rw (w, o) h.servo;

@@ -42,7 +42,7 @@ use Rattle.unit_core.specs.declared.calls.Call.{Call}
 use Rattle.unit_core.specs.declared.calls.Call.TheVariants as calls
 use Rattle.unit_core.specs.declared.calls.Answer.{Answer}
 use Rattle.unit_core.specs.declared.calls.Answer.TheVariants as answers
-use Rattle.unit_core.specs.Effects.{Stays, keeps, goes, takes, wipes, unless}
+use Rattle.unit_core.specs.Effects.{Stays, keeps, takes, unless}
 use Rattle.unit_core.specs.Showing.{port_of, shows_of}
 use Rattle.unit_choosing.specs.Choosing.{time_due, admission as admitting, with_chosen, holds_by, holds, time_passes, chooses as chooses_anew, admits, announces as announcing}
 use Rattle.unit_ticking.specs.Ticking.{ticks, line_by}
@@ -52,7 +52,7 @@ use Rattle.story_masters.specs.Places.{answer as seat_answer, chosen_in}
 use Rattle.story_masters.specs.History.{log_by, last_after, log as seats_after}
 use Rattle.story_masters.proofs.Refines.{Tells as SeatTells, step as seat-step, chooses as seat-chooses}
 use Rattle.story_lists.specs.Reading.{all, since}
-use Rattle.story.specs.Book.{Book, entry, a_now, a_pulse, a_request_call, an_exchange_entry, is_some, chosen, faulty, sequence, seats, last_measured, samples, since_wipe, y_after, sample_of, ahead_first, samples_of, wipe_count}
+use Rattle.story.specs.Book.{Book, entry, a_now, a_pulse, a_request_call, an_exchange_entry, is_some, chosen, faulty, sequence, seats, last_measured, since_wipe, y_after, sample_of, ahead_first, samples_of, wipe_count}
 use Rattle.story.specs.Saying.{unless_barred, choice_answer, admission_answer, pulse_answer, overdue, answer}
 use Rattle.story.specs.Tale.{book_with}
 use Rattle.story.proofs.Tells.{Tells, Agrees}

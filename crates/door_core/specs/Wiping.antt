@@ -1,5 +1,4 @@
 -- What a wipe leaves in the records (rules 10.8 to 10.11).
-use Rattle.std.specs.Prelude.{ℕ}
 use Rattle.rules_exchange.specs.Events.{fresh_exchange}
 use Rattle.rules_servo.specs.Steps.{fresh_servo}
 use Rattle.unit_core.specs.Wipe.{one_more}

@@ -4,23 +4,22 @@
 --     Field p f n      field n of a struct: where it lies (`off`), its value (`get`), and that its machine value and its relation are the struct's
 --     Put F            the struct with another value in that field
 -- Assumes nothing.
-use mathlib.Core.Path.{◌≡◌, refl, sym, ap, subst, ◌∙◌}
+use mathlib.Core.Path.{◌≡◌, refl, ap, subst}
 use Prim.Native.Nat.{ℕ, zero}
-use mathlib.Core.Bool.{Bool}
 use mathlib.Core.List.{List, [], ◌∷◌, map}
 use mathlib.Core.Option.{Option, some, none}
 use seplogic.Ra.Ura.{Ura}
 use lib.Dec.{T}
-use mir.Syntax.{Width, Ty, Tys, Sym, tnil, ty_struct, ty_int, ty_bool, ty_float, ty_ptr, ty_ref, ty_array, ty_unit, ty_enum, ty_named}
-use mir.Val.{Val, vunit, vbool, vint, vfloat, vptr, vstruct, Vals, vnil, WT, has_ty, of_z}
+use mir.Syntax.{Width, Ty, Tys, Sym, tnil, ty_struct, ty_int, ty_bool, ty_float, ty_ptr, ty_ref, ty_array, ty_unit, ty_enum, ty_param, ty_const, ty_array_p, ty_named}
+use mir.Val.{Val, vunit, vbool, vint, vfloat, vptr, vstruct, vcode, Vals, vnil, WT, has_ty, of_z}
 use mir.Fields.{get_v, set_v}
 use prog.Memory.{field_at}
 use types.Logic.{Logic}
 use denote.RattleType.{RattleType}
 use denote.Laws.{Is, Typed, Tells, Lawful, Makes}
 use denote.Lowered.{Lowered}
-use denote.Plain.{UInt, uint_tells, uint_lawful, uint_makes, Boolean, bool_tells, bool_lawful, bool_makes, Nothing, Nothing-Tells, Nothing-Lawful, Nothing-Makes}
-use denote.Signed.{SInt, sint_tells, sint_lawful, sint_makes}
+use denote.Plain.{UInt, uint_Tells, uint_Lawful, uint_Makes, Boolean, bool_Tells, bool_Lawful, bool_Makes, Nothing, Nothing-Tells, Nothing-Lawful, Nothing-Makes}
+use denote.Signed.{SInt, sint_Tells, sint_Lawful, sint_Makes}
 use denote.Array.{Array, array_val, Array-Tells, Array-Lawful, Array-Makes}
 use denote.Struct.Declared as struct_type
 use denote.Struct.Struct.{Plains}
@@ -59,13 +58,13 @@ typed {p = p} {𝓤 = 𝓤} 𝓛 {x} g = (subst (λ (τs : List Ty). Typed τs (
 
 -- ---- the types
 abbrev pub unsigned : (w : Width) → Plain (UInt w) (ty_int w)
-unsigned w = record { lies = refl; val = vint w; tells = uint_tells w; lawful = λ 𝓛. uint_lawful 𝓛 w; makes = λ 𝓛. uint_makes 𝓛 w }
+unsigned w = record { lies = refl; val = vint w; tells = uint_Tells w; lawful = λ 𝓛. uint_Lawful 𝓛 w; makes = λ 𝓛. uint_Makes 𝓛 w }
 
 abbrev pub signed : (w : Width) → Plain (SInt w) (ty_int w)
-signed w = record { lies = refl; val = λ z. vint w (of_z w z); tells = sint_tells w; lawful = λ 𝓛. sint_lawful 𝓛 w; makes = λ 𝓛. sint_makes 𝓛 w }
+signed w = record { lies = refl; val = λ z. vint w (of_z w z); tells = sint_Tells w; lawful = λ 𝓛. sint_Lawful 𝓛 w; makes = λ 𝓛. sint_Makes 𝓛 w }
 
 abbrev pub truth : Plain Boolean ty_bool
-truth = record { lies = refl; val = vbool; tells = bool_tells; lawful = λ 𝓛. bool_lawful 𝓛; makes = λ 𝓛. bool_makes 𝓛 }
+truth = record { lies = refl; val = vbool; tells = bool_Tells; lawful = λ 𝓛. bool_Lawful 𝓛; makes = λ 𝓛. bool_Makes 𝓛 }
 
 abbrev pub void : Plain Nothing ty_unit
 void = record { lies = refl; val = λ _. vunit; tells = Nothing-Tells; lawful = λ 𝓛. Nothing-Lawful 𝓛; makes = λ 𝓛. Nothing-Makes 𝓛 }
@@ -90,7 +89,10 @@ tys-of (ty_ref ℓ m t) = tnil
 tys-of (ty_array t n) = tnil
 tys-of ty_unit = tnil
 tys-of (ty_enum ν τss) = tnil
-tys-of (ty_named h) = tnil
+tys-of (ty_param i) = tnil
+tys-of (ty_const n) = tnil
+tys-of (ty_array_p t i) = tnil
+tys-of (ty_named h θ) = tnil
 
 abbrev pub name_of : Ty → Sym
 name_of (ty_struct ν τs) = ν
@@ -102,7 +104,10 @@ name_of (ty_ref ℓ m t) = []
 name_of (ty_array t n) = []
 name_of ty_unit = []
 name_of (ty_enum ν τss) = []
-name_of (ty_named h) = []
+name_of (ty_param i) = []
+name_of (ty_const n) = []
+name_of (ty_array_p t i) = []
+name_of (ty_named h θ) = []
 
 abbrev pub offset-of : Option (Ty × ℕ) → ℕ
 offset-of none = 0
@@ -115,6 +120,7 @@ words (vbool t) = vnil
 words (vint w n) = vnil
 words (vfloat f x) = vnil
 words (vptr b o) = vnil
+words (vcode c) = vnil
 
 -- ---- a field
 module _ {R F : RattleType} {τ σ : Ty} (p : Plain R τ) (f : Plain F σ) (n : ℕ) (get : R.Denot → F.Denot) where

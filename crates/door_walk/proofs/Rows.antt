@@ -7,9 +7,8 @@ use mathlib.Core.Bool.{Bool, true, false, not}
 use lib.Dec.{T as Holds, eqb, eqb→eq}
 use lib.ListN.{length, get_or, set, length-set}
 use seplogic.Ra.Ura.{Ura}
-use seplogic.Ra.TreeShare.{full_share}
+use base.Fraction.{full_share}
 use mir.Syntax.{Ty, named}
-use mir.Val.{Val}
 use base.Fml.{GName, Fml, fsep, fat, feq, flft, fobs, fauth, fobor}
 use types.Logic.{Logic}
 use types.Kit.{Goal, Soaks, Item, ‵, some, later, ◌⊛◌, Seq, Step, step, ◌$◌, move, drop, use1, use2, use3, split, pick, rewrite, fsplit, fsplit3, fjoin, feq_l, await}

@@ -1,33 +1,27 @@
 -- The steps of a walk: what a function is lent is opened for one statement and closed after it, a field is read and stored in memory as in a local, a callee is called by value. Laws of any type of plain data (`Plain.antt`); they say nothing of the door.
 -- Assumes `Logic`.
-use mathlib.Core.Path.{◌≡◌, refl, sym, ap, subst, ◌∙◌}
-use Prim.Native.Nat.{ℕ, zero, ◌+◌}
+use mathlib.Core.Path.{◌≡◌, refl, sym, subst}
+use Prim.Native.Nat.{ℕ, ◌+◌}
 use mathlib.Core.List.{List, [], ◌∷◌}
 use seplogic.Ra.Ura.{Ura}
-use seplogic.Ra.TreeShare.{full_share}
-use mir.Syntax.{Ty, ty_struct, named, Name, Place, Opd as Operand, Body as Code, seq, call, Local, local}
-use mir.Val.{Val, Vals, vptr, vstruct}
+use base.Fraction.{full_share}
+use mir.Syntax.{Ty, named}
+use mir.Val.{Val, vptr, vstruct}
 use mir.Fields.{get_v, set_v}
-use mir.Raw.{raw as raw_ty}
-use base.Logic.{SProp, ent, sep, emp, ex, via, mono_r, id⊢, ex_i, ex_e, mono∗, fst∗, snd∗, assoc∗, assoc', mono_l, comm∗}
-use base.Fml.{GName, Lft, Share, Fml, ftrue, fsep, fat, froom, fdies, flft, fobs, fauth, fbor, fobor, fres, fshr_bor}
-use prog.Wp.{Env, Calls, Loops, release}
+use base.Fml.{GName, Lft, Share, Fml, fsep, fat, flft, fobs, fauth, fobor}
 use types.Logic.{Logic}
-use contract.Monad.{fact}
-use sound.WpLaws.{FmC}
-use types.Kit.{Goal, Soaks, Item, ‵, raw, some, later, ◌⊛◌, ⋆, nth, put, Post, runs, lands, allocs, frees, prop, Seq, Step, step, ◌$◌, ◌∵◌, !, qed, by, move, drop, use0, use1, split, join, pick, rewrite, fsplit, fsplit3, fjoin, fjoin3, feq_i, frame, await, done}
-use types.Run.{Reads, Writes, Opds, alloc1, alloc0}
+use types.Kit.{Goal, Soaks, Item, ‵, ◌⊛◌, nth, put, Seq, Step, step, ◌$◌, ◌∵◌, !, qed, move, drop, use1, split, join, rewrite, fsplit, fsplit3, fjoin, fjoin3, feq_i, frame, done}
+use types.Run.{Reads, Writes}
 use types.Part.{Part, whole, sub, look_in, store_in}
 use types.SemTy.{Body}
 use denote.RattleType.{RattleType}
 use denote.Laws.{Is, shows, Copy}
-use denote.Memory.{mem, cell_at, part_at}
+use denote.Memory.{mem, cell_at, part_at, hidden_shr}
+use denote.Opens.{Opens, Shut}
 use denote.Ref.{MutRef, ShrRef}
 use denote.Steps.{peeks, owned, nothing, heard}
 use denote.Steps as Steps
-use denote.Triple.Statement.{Contract, Triple}
-use denote.Triple.Call.{calls_at}
-use Rattle.door_walk.proofs.Plain.{Plain, Fits, fits, typed, Field, Put, words, name_of, tys-of}
+use Rattle.door_walk.proofs.Plain.{Plain, Fits, fits, typed, Field, Put, words}
 
 -- ---- what is lent
 -- a parameter that is lent: its lifetime and the share of it, where it points, its ghost name
@@ -82,15 +76,17 @@ module _ {M : Type 1} {𝓤 : Ura M} {𝓛 : Logic 𝓤} {K : Type 0} {Γ : List
       move t (1 ∷ []) $ fsplit3 t $ owned t R (Is R) (p.makes 𝓛) y (p.val y ∷ []) g.is $ move t (4 ∷ []) $
       Steps.closes t z R y (p.val y ∷ []) a.block a.offset $ feq_i t (List Val) (vptr a.block a.offset ∷ []) (vptr a.block a.offset ∷ []) refl $ fjoin3 t $ fjoin t $ s)
 
--- by `&`: it is looked into at some share
+-- by `&`: it is looked into at some share. A `&` has no ghost name, so the `name` of its Spot says nothing
 unfoldable pub seen : {R : RattleType} {τ : Ty} → Plain R τ → Spot → R.Denot → Fml
 seen {R} p a h = fsep ((ShrRef (named 0) a.lft R).own_val (record { ref_ptr = (a.block, a.offset); now = h }) (vptr a.block a.offset ∷ [])) (flft a.lft a.share)
 
-unfoldable pub looked : {R : RattleType} {τ : Ty} → Plain R τ → Spot → Share → R.Denot → Fml
-looked {R} p a q h = fsep (fobor a.lft a.share (part_at R q h a.block a.offset)) (fsep (fres a.name (R.coded.code h)) (fshr_bor a.lft (λ s. part_at R s h a.block a.offset)))
+-- .. and while it is, beside the share of its memory: the token's way back for that share, and what a `&` to the value holds
+unfoldable pub looked : {M : Type 1} {𝓤 : Ura M} (𝓛 : Logic 𝓤) {R : RattleType} {τ : Ty} → Plain R τ → Spot → Share → R.Denot → Item 𝓤
+looked 𝓛 {R} p a q h = Shut 𝓛 a.lft a.share (part_at R q h a.block a.offset) ⊛ ‵ (hidden_shr R a.lft h a.block a.offset)
 
-copies : {R : RattleType} {τ : Ty} → Plain R τ → {M : Type 1} {𝓤 : Ura M} (𝓛 : Logic 𝓤) → Copy 𝓛 R
-copies {R} p 𝓛 = record { twice = λ x vs. qed 𝓛 (‵ (R.own x vs) ∷ []) ∵ peeks ! R (Is R) (shows 𝓛 R) x vs (λ g. owned ! R (Is R) (p.makes 𝓛) x vs g $ frame ! $ done !) }
+-- what plain data owns can be had twice
+pub copies : {R : RattleType} {τ : Ty} → Plain R τ → {M : Type 1} {𝓤 : Ura M} (𝓛 : Logic 𝓤) → Copy 𝓛 R
+copies {R} p 𝓛 = record { twice = λ x vs. qed 𝓛 (‵ (R.own_val x vs) ∷ []) ∵ peeks ! R (Is R) (shows 𝓛 R) x vs (λ g. owned ! R (Is R) (p.makes 𝓛) x vs g $ frame ! $ done !) }
 
 module _ {M : Type 1} {𝓤 : Ura M} {𝓛 : Logic 𝓤} {K : Type 0} {Γ : List (Item 𝓤)} {G : Goal 𝓤 𝓛.H} where
   pub sees : K → {R : RattleType} {τ : Ty} (p : Plain R τ) (a : Spot) (h : R.Denot)
@@ -103,25 +99,26 @@ module _ {M : Type 1} {𝓤 : Ura M} {𝓛 : Logic 𝓤} {K : Type 0} {Γ : List
   unfolding seen
   saw t p a h = fsplit t
 
-  pub looks : K → Soaks G → {R : RattleType} {τ : Ty} (p : Plain R τ) (a : Spot) (h : R.Denot)
-      → ((q : Share) → Fits p h → Seq K 𝓛 (‵ (fat q τ a.block a.offset (p.val h)) ∷ ‵ (looked p a q h) ∷ Γ) G) → Seq K 𝓛 (‵ (seen p a h) ∷ Γ) G
+  -- what a `&` to a value holds is its type's to say, so that it can be looked into is asked here (`Denote/Copied.antt` has it of plain data)
+  pub looks : K → Soaks G → {R : RattleType} {τ : Ty} (p : Plain R τ) → Opens 𝓛 R → (a : Spot) (h : R.Denot)
+      → ((q : Share) → Fits p h → Seq K 𝓛 (‵ (fat q τ a.block a.offset (p.val h)) ∷ looked 𝓛 p a q h ∷ Γ) G) → Seq K 𝓛 (‵ (seen p a h) ∷ Γ) G
   unfolding seen looked
-  looks t z {R} {τ} p a h k =
-      fsplit t $ fsplit3 t $ drop t $ move t (1 ∷ 2 ∷ []) $ Steps.looks t z R (Is R) (shows 𝓛 R) (λ x. p.val x ∷ []) p.tells (copies p 𝓛) h a.block a.offset (λ q vs.
+  looks t z {R} {τ} p op a h k =
+      fsplit t $ fsplit t $ drop t $ Steps.looks t z R op h a.block a.offset (λ q vs.
       move t (1 ∷ []) $ peeks t R (Is R) (shows 𝓛 R) h vs (λ g. drop t $
       rewrite t 0 (λ (us : List Val). ‵ (cell_at q R.mir us a.block a.offset)) (p.tells h vs g) refl $
       rewrite t 0 (λ (τs : List Ty). ‵ (cell_at q τs (p.val h ∷ []) a.block a.offset)) p.lies refl $
       use1 𝓛 (‵ (fat q τ a.block a.offset (p.val h))) (𝓛.laws.raw_at q τ a.block a.offset (p.val h)) $
-      move t (3 ∷ 2 ∷ []) $ fjoin t $ move t (2 ∷ 0 ∷ []) $ fjoin t $ move t (1 ∷ []) $ k q (fits p h vs g)))
+      move t (1 ∷ 2 ∷ []) $ join t $ move t (1 ∷ []) $ k q (fits p h vs g)))
 
   pub shuts : K → Soaks G → {R : RattleType} {τ : Ty} {p : Plain R τ} (a : Spot) (q : Share) {h : R.Denot} → Fits p h
-      → Step K 𝓛 (‵ (seen p a h) ∷ Γ) G (‵ (fat q τ a.block a.offset (p.val h)) ∷ ‵ (looked p a q h) ∷ Γ) G
+      → Step K 𝓛 (‵ (seen p a h) ∷ Γ) G (‵ (fat q τ a.block a.offset (p.val h)) ∷ looked 𝓛 p a q h ∷ Γ) G
   unfolding seen looked
   shuts t z {R} {τ} {p} a q {h} g = step (λ s.
       use1 𝓛 (‵ (cell_at q (τ ∷ []) (p.val h ∷ []) a.block a.offset)) (𝓛.laws.at_raw q τ a.block a.offset (p.val h)) $
       rewrite t 0 (λ (τs : List Ty). ‵ (cell_at q τs (p.val h ∷ []) a.block a.offset)) (sym p.lies) refl $
-      move t (1 ∷ []) $ fsplit3 t $ owned t R (Is R) (p.makes 𝓛) h (p.val h ∷ []) g.is $ move t (4 ∷ 0 ∷ 1 ∷ []) $
-      Steps.shuts t z R q h (p.val h ∷ []) a.block a.offset $ move t (1 ∷ 2 ∷ []) $ feq_i t (List Val) (vptr a.block a.offset ∷ []) (vptr a.block a.offset ∷ []) refl $ fjoin3 t $ fjoin t $ s)
+      move t (1 ∷ []) $ split t $ owned t R (Is R) (p.makes 𝓛) h (p.val h ∷ []) g.is $ move t (3 ∷ 0 ∷ 1 ∷ []) $
+      Steps.shuts t z R q h (p.val h ∷ []) a.block a.offset $ move t (1 ∷ []) $ feq_i t (List Val) (vptr a.block a.offset ∷ []) (vptr a.block a.offset ∷ []) refl $ fjoin t $ fjoin t $ s)
 
 -- ---- a field, in memory or in a local
 module _ {M : Type 1} {𝓤 : Ura M} {𝓛 : Logic 𝓤} {K : Type 0} {R F : RattleType} {τ σ : Ty} {p : Plain R τ} {f : Plain F σ} {n : ℕ} {get : R.Denot → F.Denot} where

@@ -161,6 +161,7 @@ pub fn place(r: MasterWords, m: Message, p: Seated, now: u64) -> MasterWords
 }
 
 // This master, or none, is chosen. A new or lost one wipes.
+#[tactic(auto, unfolding(crate::specs::Choosing::held_of))]
 fn hold(mut t: StateWords, now: u64, chosen: Chosen) -> Held
     ensures { result ≡ held_of t now chosen }
 {

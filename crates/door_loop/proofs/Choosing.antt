@@ -22,17 +22,14 @@ use Rattle.rules_masters.specs.Inner.{barred_of, seat_of, seat_in, settled_of}
 use Rattle.rules_masters.specs.Records.{fresh_record, interval_of, renewed_of, entered_of}
 use Rattle.rules_masters.proofs.Candidates.{best-at}
 use Rattle.rules_masters.proofs.Standings.{seat-settles, admitted-parts}
-use Rattle.unit_core.specs.declared.calls.Answer.TheVariants.{Choice}
-use Rattle.unit_core.specs.Effects.{goes, wipes, unless}
-use Rattle.unit_choosing.specs.Choosing.{time_due, admission, with_chosen, holds_by, holds, chooses, admits, time_passes}
+use Rattle.unit_core.specs.Effects.{unless}
+use Rattle.unit_choosing.specs.Choosing.{time_due, admission, holds_by, holds, chooses, admits, time_passes}
 use Rattle.unit.specs.Calls.{applied}
 use Rattle.door_records.specs.declared.masters.MasterWords.{MasterWords}
 use Rattle.door_records.specs.Unit.{chosen_in as master_in}
 use Rattle.door_records.specs.Masters.{record_in, master_words}
 use Rattle.door_records.proofs.Backs.{chosen-back}
-use Rattle.door_words.specs.Answers.{choosing}
-use Rattle.door_core.specs.Wiping.{wiped_state}
-use Rattle.door_choosing.specs.Choosing.{announce_in, numbered_by, seat_unless, chosen_state, held_by, held_of, held_unless, timed_of}
+use Rattle.door_choosing.specs.Choosing.{announce_in, numbered_by, seat_unless, held_by, held_of, held_unless, timed_of}
 use Rattle.door_loop.specs.Lending.{fresh_master, standing_at, chosen_in, lent_by, seated_in}
 use Rattle.door_loop.specs.Lending as places
 use Rattle.door_loop.specs.Loop.{Parts, from_lent, Meant}

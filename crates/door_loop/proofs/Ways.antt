@@ -1,5 +1,5 @@
--- The ways through the door's calls: where a test came out so, what was stored and said is what the promise says. The walks cite these.
-use mathlib.Core.Path.{◌≡◌, refl, sym, ap, ◌∙◌}
+-- The ways through the door's calls: where a test came out so, what was stored and said is what the promise says. Proofs of door_leaving and door cite them.
+use mathlib.Core.Path.{◌≡◌, refl, ap, ◌∙◌}
 use mathlib.Core.Bool.{Bool, true, false, not, cond}
 use mathlib.Core.List.{List, [], ◌∷◌}
 use Prim.Native.Nat.{ℕ, zero, suc, ◌<◌}
@@ -21,7 +21,6 @@ use Rattle.rules_masters.proofs.Standings.{seat-small}
 use Rattle.rules_servo.specs.declared.Servo.{Servo}
 use Rattle.rules_watch.specs.declared.Answer.{Answer}
 use Rattle.rules_watch.specs.declared.Answer.TheVariants.{Refused, Says}
-use Rattle.rules_watch.specs.declared.Took.{Took}
 use Rattle.rules_watch.specs.declared.Watch.{Watch}
 use Rattle.rules_watch.specs.declared.window.Head.{Head}
 use Rattle.rules_watch.specs.Watch.{fresh_watch, taken_of, took_of}
@@ -34,9 +33,8 @@ use Rattle.door_records.specs.Masters.{record_in}
 use Rattle.door_words.specs.declared.answers.AnswerWords.{AnswerWords}
 use Rattle.door_words.specs.Answers.{refusing}
 use Rattle.door_core.specs.declared.receiving.Received.{Received}
-use Rattle.door_core.specs.declared.wiping.Emptied.{Emptied}
 use Rattle.door_core.specs.declared.ticking.Ticked.{Ticked}
-use Rattle.door_core.specs.Wiping.{wiped_state, reset_state, emptied_of}
+use Rattle.door_core.specs.Wiping.{wiped_state, emptied_of}
 use Rattle.door_core.specs.Receiving.{received_by}
 use Rattle.door_core.specs.Ticking.{ticked_with, ticked_by}
 use Rattle.door_choosing.specs.declared.Held.{Held}
@@ -45,7 +43,7 @@ use Rattle.door_choosing.specs.declared.Looked.{Looked}
 use Rattle.door_choosing.specs.Choosing.{announce_in, looked_of, numbered_by, seat_by, seat_unless, best_with, held_of, timed_of, untabled_of}
 use Rattle.door_measuring.specs.declared.measuring.Told.{Told}
 use Rattle.door_measuring.specs.Measuring.{heard_told, servo_after, output_said}
-use Rattle.door_loop.specs.Lending.{Lent, says, with_state, unit_with, wiped_in, spoken_in, told_in, heard_in, lent_by, fresh_master, standing_at, candidate_at, chosen_in, placed_in, seated_in, seat_in, announced_in, open_in, received_in, receive_of, time_of, reset_of, ticked_in, tick_of}
+use Rattle.door_loop.specs.Lending.{Lent, says, with_state, unit_with, wiped_in, spoken_in, told_in, heard_in, lent_by, fresh_master, candidate_at, chosen_in, placed_in, seated_in, seat_in, announced_in, open_in, received_in, receive_of, time_of, ticked_in, tick_of}
 
 -- ---- a test that held, or did not
 pub held-is : {X : Type 0} (t : Bool) (a b : X) → Holds t → a ≡ cond t a b

@@ -50,7 +50,6 @@ use Rattle.door_words.specs.Answers.{refusing}
 use Rattle.door_core.specs.declared.receiving.Received.{Received}
 use Rattle.door_core.specs.Receiving.{received_by}
 use Rattle.door_core.specs.Ticking.{ticked_by}
-use Rattle.door_choosing.specs.declared.Held.{Held as Choice}
 use Rattle.door_choosing.specs.declared.Seated.{Seated}
 use Rattle.door_choosing.specs.Choosing.{held_by, held_of, held_unless, untabled_of}
 use Rattle.door_measuring.specs.declared.measuring.Told.{Told}

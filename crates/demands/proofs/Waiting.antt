@@ -62,11 +62,11 @@ few-more : {t : WatchSettings} {k : ℕ} {w : Watch} → Few t k w → (n : ℕ)
 few-more f n h = record { since = f.since; good = f.good; few = omega (arith, f.few) }
 
 module _ (t : WatchSettings) (k : ℕ) (w : Watch) (f : Few t k w) where
-  few-effect : (most : ℕ) (e : Effect) → Fair most e → Few t k (watch_by t w e)
-  few-effect most (keeps a) h = f
-  few-effect most (goes a m r) h = f
-  few-effect most (takes origin x) h = absurd h
-  few-effect most (wipes a m) h = few-fresh t k
+  few-effect : (n : ℕ) (e : Effect) → Fair n e → Few t k (watch_by t w e)
+  few-effect n (keeps a) h = f
+  few-effect n (goes a m r) h = f
+  few-effect n (takes origin x) h = absurd h
+  few-effect n (wipes a m) h = few-fresh t k
 
   few-outcome : (m : Stays) (o : Outcome) → Good t (since_by f.since o) (next_watch (taken_by t w o)) → Few t (suc k) (watch_by t w (ticks m o))
   few-outcome m (Refuse n) g = few-more f (suc k) (omega arith)

@@ -1,4 +1,4 @@
-// The door for the card's firmware: one function for each call, which works on what it is lent where it lies. All exports are here, under one prefix.
+// The door for the card's firmware: one function for each call, which works on what it is lent where it lies. door_c exports them for C.
 #![tactic(auto)]
 
 ghost use Rattle.std.specs.Prelude.{◌≡◌, length};
@@ -26,28 +26,21 @@ use rules_settings::Given;
 use rules_watch::Watch;
 
 // The version that the header's macro has too.
-#[unsafe(no_mangle)]
-pub extern "C" fn sinezhab_version() -> u32
+pub fn sinezhab_version() -> u32
     ensures { result ≡ 131_072 }
 {
     131_072
 }
 
 // A message that is read from octets, or the number of its refusal.
-#[unsafe(no_mangle)]
-pub extern "C" fn sinezhab_read(octets: &[u8]) -> MessageWords
+pub fn sinezhab_read(octets: &[u8]) -> MessageWords
     ensures { result ≡ read_words (read_of octets.now) }
 {
     MessageWords::read(octets)
 }
 
 // A message is written into the lent part, or nothing is.
-#[unsafe(no_mangle)]
-pub extern "C" fn sinezhab_write(
-    message: MessageWords,
-    suffix: &[u8],
-    part: &mut [u8],
-) -> WrittenWords
+pub fn sinezhab_write(message: MessageWords, suffix: &[u8], part: &mut [u8]) -> WrittenWords
     ensures value { result ≡ written_by (message_by message) suffix.now (length part.old) }
     ensures part_after { part.new ≡ left_words (message_by message) suffix.now part.old }
 {
@@ -55,8 +48,7 @@ pub extern "C" fn sinezhab_write(
 }
 
 // A fresh unit and its servo. Its table and its watch are all zeros.
-#[unsafe(no_mangle)]
-pub extern "C" fn sinezhab_make(given: Given) -> Made
+pub fn sinezhab_make(given: Given) -> Made
     ensures { result ≡ made_of given }
 {
     making::make(given)
@@ -64,8 +56,7 @@ pub extern "C" fn sinezhab_make(given: Given) -> Made
 
 // The octets of a message. Only an Announce reads the table (rule 12.12), of which it stores one place; the servo record is found updated (rules 8.9
 // and 12.11), and a wipe empties the watch. The octets stay as they are.
-#[unsafe(no_mangle)]
-pub extern "C" fn sinezhab_receive(
+pub fn sinezhab_receive(
     unit: &mut UnitWords,
     servo: &mut Servo,
     table: &mut [MasterWords],
@@ -102,8 +93,7 @@ pub extern "C" fn sinezhab_receive(
 }
 
 // The bare time call: the choice over the five records, which it leaves as they are.
-#[unsafe(no_mangle)]
-pub extern "C" fn sinezhab_time(
+pub fn sinezhab_time(
     unit: &mut UnitWords,
     servo: &mut Servo,
     table: &mut [MasterWords],
@@ -134,13 +124,7 @@ pub extern "C" fn sinezhab_time(
 }
 
 // A request into a lent frame: it is touched only where the answer is that it is asked.
-#[unsafe(no_mangle)]
-pub extern "C" fn sinezhab_request(
-    unit: &mut UnitWords,
-    frame: &mut [u8],
-    time: u64,
-    answer: &mut AnswerWords,
-)
+pub fn sinezhab_request(unit: &mut UnitWords, frame: &mut [u8], time: u64, answer: &mut AnswerWords)
     ensures { (answer.new ≡ (requested_of unit.old.settings unit.old.state unit.old.halves time (length frame.old)).answer)
         × (unit.new ≡ unit_asking unit.old time (length frame.old))
         × (frame.new ≡ frame_after (core_of unit.old.settings unit.old.state unit.old.halves (delays_words fresh_exchange)) time frame.old) }
@@ -155,8 +139,7 @@ pub extern "C" fn sinezhab_request(
 }
 
 // t3 of the request that has left.
-#[unsafe(no_mangle)]
-pub extern "C" fn sinezhab_sent(
+pub fn sinezhab_sent(
     unit: &mut UnitWords,
     servo: &mut Servo,
     watch: &mut Watch,
@@ -174,8 +157,7 @@ pub extern "C" fn sinezhab_sent(
 }
 
 // The operator's reset.
-#[unsafe(no_mangle)]
-pub extern "C" fn sinezhab_reset(
+pub fn sinezhab_reset(
     unit: &mut UnitWords,
     servo: &mut Servo,
     watch: &mut Watch,
@@ -193,8 +175,7 @@ pub extern "C" fn sinezhab_reset(
 }
 
 // A second pulse.
-#[unsafe(no_mangle)]
-pub extern "C" fn sinezhab_tick(
+pub fn sinezhab_tick(
     unit: &mut UnitWords,
     servo: &mut Servo,
     watch: &mut Watch,
@@ -211,8 +192,7 @@ pub extern "C" fn sinezhab_tick(
 }
 
 // The drift line.
-#[unsafe(no_mangle)]
-pub extern "C" fn sinezhab_line(unit: &UnitWords, watch: &mut Watch, answer: &mut AnswerWords)
+pub fn sinezhab_line(unit: &UnitWords, watch: &mut Watch, answer: &mut AnswerWords)
     ensures { (answer.new ≡ lined_of unit.now.settings unit.now.state watch.old.head watch.old.ys watch.old.marks)
         × (watch.new ≡ watch.old) }
 {
@@ -224,8 +204,7 @@ pub extern "C" fn sinezhab_line(unit: &UnitWords, watch: &mut Watch, answer: &mu
 }
 
 // What the unit shows.
-#[unsafe(no_mangle)]
-pub extern "C" fn sinezhab_show(unit: &UnitWords, servo: &Servo, answer: &mut AnswerWords)
+pub fn sinezhab_show(unit: &UnitWords, servo: &Servo, answer: &mut AnswerWords)
     ensures { answer.new ≡ shown_of unit.now servo.now }
 {
     let u = *unit;

@@ -27,8 +27,9 @@ try() {
     echo "wrong-rules: $name: $refused is proved, and must not be" >&2
     return 1
   fi
-  grep -q "^rt: $refused NOT PROVED (" "$work/log" || { echo "wrong-rules: $name: a crate below $refused failed" >&2; return 1; }
-  echo "$name: $proved proved, $refused refuses: $(grep -m1 -o "crates/$refused/.*: error: .*" "$work/log" | cut -c1-120)"
+  # rt names each crate as it comes to it
+  grep '^rt: chose ' "$work/log" | tail -1 | grep -q " for $refused\$" || { echo "wrong-rules: $name: a crate below $refused failed" >&2; return 1; }
+  echo "$name: $proved proved, $refused refuses: $(grep -m1 -oE '^(note: )?\S+:[0-9]+:[0-9]+: .*' <(sed "1,/^rt: chose .* for $refused\$/d" "$work/log") | cut -c1-160)"
 }
 
 try sequence_of_65535 unit story \

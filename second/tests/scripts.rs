@@ -15,14 +15,32 @@ fn write(path: &Path, text: &str) {
     fs::set_permissions(path, fs::Permissions::from_mode(0o755)).unwrap();
 }
 
-/// What stands for a crate's source. It has no ending: the gate asks of every file of Rattle under the
-/// repository which crate it is in.
+/// What stands for a crate's source.
 const SOURCE: &str = "repository/crates/one/src/main";
 
+/// A folder for one test, gone after it. It lies outside the repository: the gate asks of every crates.txt
+/// under that whose it is.
+struct Place(PathBuf);
+
+impl std::ops::Deref for Place {
+    type Target = Path;
+
+    fn deref(&self) -> &Path {
+        &self.0
+    }
+}
+
+impl Drop for Place {
+    fn drop(&mut self) {
+        let _ = fs::remove_dir_all(&self.0);
+    }
+}
+
 /// A repository with one crate and the script, and beside it a kit: `rt`, which does what is given.
-fn place(name: &str, rt: &str) -> PathBuf {
-    let place = Path::new(env!("CARGO_TARGET_TMPDIR")).join("scripts").join(name);
-    let _ = fs::remove_dir_all(&place);
+fn place(name: &str, rt: &str) -> Place {
+    let folder = format!("sinezhab-{}-{name}", std::process::id());
+    let place = Place(std::env::temp_dir().join(folder));
+    let _ = fs::remove_dir_all(&*place);
     write(&place.join("kit/bin/rt"), &format!("#!/bin/sh\n{rt}\n"));
     write(&place.join("kit/machine/uname"), "#!/bin/sh\necho x86_64\n");
     write(&place.join("repository/crates.txt"), "one:\n");

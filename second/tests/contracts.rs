@@ -73,7 +73,10 @@ fn faults(function: &Function) -> Vec<String> {
     if result.contains("->") && !clauses.split("ensures").any(settled) {
         found.push(format!("{}: its answer is not settled", function.name));
     }
-    let open = |name: &&str| !clauses.contains(&format!("{name}.new ≡ "));
+    let told = |name: &str| {
+        ["{ ", "("].iter().any(|before| clauses.contains(&format!("{before}{name}.new ≡ ")))
+    };
+    let open = |name: &&str| !told(name);
     found.extend(
         lent(function)
             .into_iter()
@@ -138,6 +141,10 @@ fn a_contract_that_leaves_something_open_is_found() {
         ["f: its answer is not settled"]
     );
     assert_eq!(faulty(&promised.replace("b.new", "b.old")), ["f: b is not settled"]);
+    let open = ["f: b is not settled"];
+    assert_eq!(faulty(&promised.replace("(b.new ≡ h)", "(length b.new ≡ h)")), open);
+    assert_eq!(faulty(&promised.replace("(b.new ≡ h)", "(ab.new ≡ h)")), open);
+    assert_eq!(faulty(&labelled.replace("{ b.new ≡ h }", "{ take 3 b.new ≡ h }")), open);
     assert_eq!(faulty(&promised.replace("(result ≡ g a)", "(c → result ≡ g a)")).len(), 2);
     assert_eq!(
         faulty(&promised.replace("    ensures", "    requires { c }\n    ensures")),

@@ -4,6 +4,7 @@ use std::fs;
 use std::os::unix::fs::PermissionsExt;
 use std::path::{Path, PathBuf};
 use std::process::{Command, Output};
+use std::sync::{Mutex, MutexGuard, PoisonError};
 use std::time::{Duration, SystemTime};
 
 const ROOT: &str = concat!(env!("CARGO_MANIFEST_DIR"), "/..");
@@ -20,7 +21,15 @@ const SOURCE: &str = "repository/crates/one/src/main";
 
 /// A folder for one test, gone after it. It lies outside the repository: the gate asks of every crates.txt
 /// under that whose it is.
-struct Place(PathBuf);
+struct Place(PathBuf, #[allow(dead_code)] Alone);
+
+/// One test at a time: a program can't be run while another test's child still has it open to be written.
+type Alone = MutexGuard<'static, ()>;
+
+fn alone() -> Alone {
+    static ONE: Mutex<()> = Mutex::new(());
+    ONE.lock().unwrap_or_else(PoisonError::into_inner)
+}
 
 impl std::ops::Deref for Place {
     type Target = Path;
@@ -39,12 +48,13 @@ impl Drop for Place {
 /// A repository with one crate and the script, and beside it a kit: `rt`, which does what is given.
 fn place(name: &str, rt: &str) -> Place {
     let folder = format!("sinezhab-{}-{name}", std::process::id());
-    let place = Place(std::env::temp_dir().join(folder));
+    let place = Place(std::env::temp_dir().join(folder), alone());
     let _ = fs::remove_dir_all(&*place);
     write(&place.join("kit/bin/rt"), &format!("#!/bin/sh\n{rt}\n"));
     write(&place.join("kit/machine/uname"), "#!/bin/sh\necho x86_64\n");
     write(&place.join("repository/crates.txt"), "one:\n");
     write(&place.join("repository/crates/bench/stdin"), "");
+    write(&place.join("repository/crates/bench/stdout"), "program\n");
     write(&place.join(SOURCE), "");
     write(&place.join("repository/list"), "show\n");
     fs::copy(format!("{ROOT}/bench"), place.join("repository/bench")).unwrap();
@@ -95,6 +105,7 @@ fn it_runs_an_emulator_where_the_processor_is_another() {
     write(&place.join("kit/machine/uname"), "#!/bin/sh\necho aarch64\n");
     let emulator = "#!/bin/sh\necho emulated\nexec \"$@\"\n";
     write(&place.join("kit/machine/qemu-x86_64"), emulator);
+    write(&place.join("repository/crates/bench/stdout"), "emulated\nprogram\n");
     let (told, _) = texts(&bench(&place, &["list"]));
     assert!(told.starts_with("emulated\nprogram\n") && told.ends_with("show\n"), "{told}");
 }
@@ -110,6 +121,18 @@ fn it_runs_nothing_that_is_not_proved() {
     let (told, said) = texts(&output);
     assert_eq!((output.status.code(), told.as_str()), (Some(1), ""));
     assert!(said.contains("bench: one NOT PROVED") && said.contains("not proved"), "{said}");
+}
+
+#[test]
+fn it_runs_nothing_that_answers_otherwise() {
+    let place = place("otherwise", PROVES);
+    write(&place.join("repository/crates/bench/stdout"), "other\n");
+    for _ in 0..2 {
+        let output = bench(&place, &["list"]);
+        let (told, said) = texts(&output);
+        assert_eq!((output.status.code(), told.as_str()), (Some(1), ""));
+        assert!(said.contains("not the stored ones"), "{said}");
+    }
 }
 
 #[test]
@@ -133,6 +156,7 @@ fn it_helps_and_tells_wrong_words_from_a_missing_kit() {
 
 #[test]
 fn examples_are_compared() {
+    let _alone = alone();
     let examples = |words: &[&str]| {
         let mut command = Command::new(format!("{ROOT}/scripts/examples.sh"));
         command.args(words).output().unwrap()

@@ -1,11 +1,11 @@
 -- Laws of whole numbers by their two parts in ℕ, `up` and `dn`: what is linear over ℤ is then linear over ℕ, which `omega` proves.
-use mathlib.Core.Path.{◌≡◌, refl, sym, ap, ap₂, ◌∙◌, subst}
+use mathlib.Core.Path.{◌≡◌, refl, sym, ap, ◌∙◌, subst}
 use mathlib.Core.Bool.{Bool, true, false, not, cond}
-use Prim.Native.Nat.{ℕ, zero, suc, ◌+◌, ◌*◌, ◌-◌, ◌/◌, ◌%◌, ◌^◌, ◌≤◌, ◌<◌, min, max, zero-le}
-use native.Mathlib.Nat.{zero-add, add-zero, zero-mul, mul-zero, mul-add, add-mul, mul_assoc, mul_comm, zero-div, zero-mod, one-mul, mul-le-mul}
+use Prim.Native.Nat.{ℕ, zero, suc, ◌+◌, ◌*◌, ◌-◌, ◌/◌, ◌%◌, ◌^◌, ◌≤◌, ◌<◌, min, zero-le}
+use native.Mathlib.Nat.{zero-add, add-zero, zero-mul, mul-zero, mul-add, add-mul, mul_assoc, zero-div, zero-mod, mul-le-mul}
 use native.Mathlib.Omega.{arith}
-use lib.Dec.{T, leb, ltb, leb→le, le→leb, ltb→lt, lt→ltb, nltb→le, nleb→lt}
-use lib.IntN.{ℤ, pos, negsuc, neg_ℤ, sub_ℕ, nat_abs, ◌+ℤ◌, ◌-ℤ◌, ◌*ℤ◌}
+use lib.Dec.{T, ltb, leb→le, le→leb, ltb→lt, lt→ltb, nltb→le, nleb→lt}
+use lib.IntN.{ℤ, pos, negsuc, neg_ℤ, sub_ℕ, nat_abs, ◌+ℤ◌, ◌*ℤ◌}
 use lib.Signed.{◌≤ℤ◌, ◌<ℤ◌, le_z, lt_z, mag, quot_z, rem_z, non_neg}
 use mir.Syntax.{w64}
 use mir.Val.{SFits, Fits, to_z, of_z}

@@ -89,8 +89,8 @@ unfolding seat_in
 seat-in-small t sender sequence now interval = seat-small _ _ _ _ _
 
 -- as the code has it: a seat that is that one
-pub seat_small : (s : Seat) (t : List Record) (sender : Port) (sequence now interval : ℕ) → s ≡ seat_in t sender sequence now interval → s.at < 5
-seat_small s t sender sequence now interval e = rw e (seat-in-small t sender sequence now interval)
+pub seat_below : (s : Seat) (t : List Record) (sender : Port) (sequence now interval : ℕ) → s ≡ seat_in t sender sequence now interval → s.at < 5
+seat_below s t sender sequence now interval e = rw e (seat-in-small t sender sequence now interval)
 
 -- .. and all five are live exactly where no place is free
 module _ (l : List Standing) (five : length l ≡ 5) where

@@ -77,7 +77,7 @@ fn seat_in(table: Table, sender: Port, sequence: u16, now: u64, interval: u32) -
 }
 
 // The refusals that look into the table; an Announce that none of them meets takes its place there.
-#[tactic(auto, using(crate::proofs::Standings::seat_small))]
+#[tactic(auto, using(crate::proofs::Standings::seat_below))]
 fn settle(mut table: Table, announce: Announce, interval: u32, now: u64) -> Admitted
     ensures { result ≡ seated_of table announce interval now }
 {

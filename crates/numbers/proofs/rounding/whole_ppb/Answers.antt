@@ -1,28 +1,13 @@
 -- `whole_ppb` meets its contract: the magnitude is rounded, and the sign kept.
-use mathlib.Core.Path.{◌≡◌, refl, ap, ◌∙◌}
-use Prim.Native.Nat.{◌<◌}
 use borrow.Author.Rules.{sfits_of}
 use lib.Dec.{lit<}
-use lib.IntN.{pos, nat_abs}
-use lib.Signed.{lt_z}
-use mir.Syntax.{w64}
-use mir.Val.{SFits}
-use Rattle.numbers.specs.Inner.{with_sign}
-use Rattle.numbers.proofs.Integers.{back, by_sign}
-use Rattle.numbers.specs.Rounding.{rounded_of, half_to_even}
-use Rattle.numbers.proofs.Signs.{abs-fits}
-use Rattle.numbers.proofs.Rounds.{nearest, round-small}
+use Rattle.numbers.proofs.Rounds.{quotient-small, quotient-is}
 use Rattle.numbers.proofs.rounding.whole_ppb.Goals as goal
 
 pub with_sign-requires : goal.with_sign-requires
-with_sign-requires c =
-    let size : c.rounded.result ≡ rounded_of 128_000 (nat_abs c.args.units) = c.rounded.ensures ∙ ap (rounded_of 128_000) (rw (back c.ranges.units) at c.magnitude.ensures) in
-    rw size (round-small 128_000 (nat_abs c.args.units) (lit< tt) (abs-fits c.args.units c.ranges.units))
+with_sign-requires c = quotient-small 128_000 c.args.units (lit< tt) c.ranges.units c.magnitude.ensures c.rounded.ensures
 
 pub returns : goal.returns
 returns c =
-    let z = c.args.units in
-    let size : c.rounded.result ≡ rounded_of 128_000 (nat_abs z) = c.rounded.ensures ∙ ap (rounded_of 128_000) (rw (back c.ranges.units) at c.magnitude.ensures) in
-    let f : SFits w64 c.with_sign.result = sfits_of c.with_sign.type_inv in
-    let e : c.with_sign.result ≡ half_to_even 128_000 z = (rw (back c.ranges.units) at c.with_sign.ensures) ∙ ap (with_sign (lt_z z (pos 0))) size ∙ by_sign (rounded_of 128_000) z in
-    rw (back f, e) (record { value = refl; nearest_whole = nearest 128_000 z (lit< tt) })
+    let h = quotient-is 128_000 c.args.units (lit< tt) c.ranges.units (sfits_of c.with_sign.type_inv) c.magnitude.ensures c.rounded.ensures c.with_sign.ensures in
+    record { value = h.0; nearest_whole = h.1 }

@@ -8,6 +8,7 @@
  *     NOW left SECONDS NANOS           the hardware's stamp of the departure of the request that was sent last
  *     NOW pulse REFERENCE CLOCK        the second pulse: the stamps of free oscillator and steered clock, in ns
  *
+ *     scripts/libdoor.sh
  *     gcc -Idoor examples/loop.c target/staticlib/libdoor.a -o loop && ./loop <examples/hall.events
  */
 #include "sinezhab.h"

@@ -4,7 +4,8 @@
 
 pub mod messages;
 
-ghost use Rattle.std.specs.Prelude.{◌≡◌, ◌≤◌, ◌<◌};
+ghost use Rattle.std.specs.Prelude.{◌≡◌, ◌≤◌, ◌<◌, None};
+ghost use Rattle.bench_text.specs.Out.{told_by, Kept};
 
 use std::io;
 use std::io::Stdout;
@@ -18,7 +19,9 @@ pub struct Out {
 }
 
 impl Out {
-    pub fn new(to: Stdout) -> Out {
+    pub fn new(to: Stdout) -> Out
+        ensures { result.failed ≡ None }
+    {
         Out {
             octets: [0; 65_536],
             to,
@@ -27,7 +30,9 @@ impl Out {
     }
 
     // Whether all that was to be written out was.
-    pub fn done(&self) -> io::Result<()> {
+    pub fn done(&self) -> io::Result<()>
+        ensures { result ≡ told_by self.now.failed }
+    {
         match self.failed {
             Some(e) => Err(e),
             None => Ok(()),
@@ -37,7 +42,8 @@ impl Out {
 
 // The gathered octets are written out: none are left.
 pub fn flush(out: &mut Out, at: usize) -> usize
-    ensures { result ≡ 0 }
+    ensures none_left { result ≡ 0 }
+    ensures failure { Kept out.old.failed out.new.failed }
 {
     if at <= 65_536 {
         if out.failed.is_none() {

@@ -54,6 +54,7 @@ pub fn hold(
 }
 
 // An Announce: one place of the table is stored, and the choice is made over the five.
+#[tactic(auto, using(crate::proofs::Seats::seated_below))]
 pub fn announce(
     unit: &mut UnitWords,
     servo: &mut Servo,

@@ -1,7 +1,8 @@
 -- `announce` meets its contract: the place is one of five, and what is stored and chosen there is what an Announce leaves.
 use borrow.Author.Tests.{eq-eqb}
 use lib.Dec.{T as Holds, eqb}
-use Rattle.std.proofs.Common.{◌≡◌, ℕ, ◌<◌, Bool, false, List, length, get_or, set, ap, ◌∙◌, arith}
+use Rattle.std.proofs.Common.{◌≡◌, ℕ, ◌<◌, false, List, length, get_or, set, ap, ◌∙◌, arith}
+use Rattle.std.proofs.lemmas.Float.{T_from_false}
 use Rattle.std.specs.Prelude.{not, []}
 use Rattle.wire_layout.specs.declared.message.Message.{Message}
 use Rattle.rules_masters.specs.declared.chosen.Chosen.{Chosen}
@@ -18,17 +19,9 @@ use Rattle.door_choosing.specs.declared.Looked.{Looked}
 use Rattle.door_choosing.specs.declared.Seated.{Seated}
 use Rattle.door_choosing.specs.Choosing.{looked_of, seat_by, placed_of, best_with, held_of}
 use Rattle.door_loop.specs.Lending.{Lent, fresh_master, lent_by, announced_in}
-use Rattle.door_loop.proofs.Ways.{held-left, seat-is, placed-is, seat-within, seat-taken, announce-is}
+use Rattle.door_loop.proofs.Ways.{held-left, seat-is, placed-is, seat-taken, announce-is}
+use Rattle.door_leaving.proofs.Seats.{seated_below}
 use Rattle.door_leaving.proofs.announce.Goals as goal
-
--- the place that was given is one of five
-within : (w : UnitWords) (m : Message) (now : ℕ) (a0 a1 a2 a3 a4 : Looked) (p : Seated)
-    → p ≡ seat_by w.settings w.state m now a0.standing a1.standing a2.standing a3.standing a4.standing → p.at < 5
-within w m now a0 a1 a2 a3 a4 p e = rw e (seat-within w.settings w.state m now a0.standing a1.standing a2.standing a3.standing a4.standing)
-
--- a test that came out so, as the ways have it
-no : (b : Bool) → b ≡ false → Holds (not b)
-no b e = rw e tt
 
 five : (n : ℕ) → n ≡ 5 → Holds (not (not (eqb n 5)))
 five n e = rw (eq-eqb n 5 e) tt
@@ -46,28 +39,18 @@ module _ (w : UnitWords) (v : Servo) (t : List MasterWords) (y : Watch) (m : Mes
   stored p pe l b x xe q qe h =
       held-left w v (set t p.at x) y q h
       ∙ ap (λ (k : Held). lent_by w v (set t p.at x) y k)
-      (qe ∙ ap (λ (k : Chosen). held_of w.state now k) (placed-is w t m now n a0 a1 a2 a3 a4 e e0 e1 e2 e3 e4 l p.at (within w m now a0 a1 a2 a3 a4 p pe) x))
-      ∙ seat-taken w v t y m now p (no p.barred b) (set t p.at x) (ap (λ (k : MasterWords). set t p.at k) xe)
+      (qe ∙ ap (λ (k : Chosen). held_of w.state now k) (placed-is w t m now n a0 a1 a2 a3 a4 e e0 e1 e2 e3 e4 l p.at (seated_below w m now a0 a1 a2 a3 a4 p pe) x))
+      ∙ seat-taken w v t y m now p (T_from_false p.barred b) (set t p.at x) (ap (λ (k : MasterWords). set t p.at k) xe)
       ∙ announce-is w v t y m now (five (length t) l) p (seat-is w t m now n a0 a1 a2 a3 a4 e e0 e1 e2 e3 e4 p pe)
-
-pub offset_bounds-table-at : goal.offset_bounds-table-at
-offset_bounds-table-at c =
-    let h : c.seat_in-p.result.at < 5 = within c.args.unit.now c.args.m c.args.time c.look-a0.result c.look-a1.result c.look-a2.result c.look-a3.result c.look-a4.result c.seat_in-p.result c.seat_in-p.ensures in
-    omega arith
 
 pub slice_copy_out-place : goal.slice_copy_out-place
 slice_copy_out-place c =
-    let h : c.seat_in-p.result.at < 5 = within c.args.unit.now c.args.m c.args.time c.look-a0.result c.look-a1.result c.look-a2.result c.look-a3.result c.look-a4.result c.seat_in-p.result c.seat_in-p.ensures in
-    omega arith
-
-pub offset_bounds-table-at-2 : goal.offset_bounds-table-at-2
-offset_bounds-table-at-2 c =
-    let h : c.seat_in-p.result.at < 5 = within c.args.unit.now c.args.m c.args.time c.look-a0.result c.look-a1.result c.look-a2.result c.look-a3.result c.look-a4.result c.seat_in-p.result c.seat_in-p.ensures in
+    let h : c.seat_in-p.result.at < 5 = seated_below c.args.unit.now c.args.m c.args.time c.look-a0.result c.look-a1.result c.look-a2.result c.look-a3.result c.look-a4.result c.seat_in-p.result c.seat_in-p.ensures in
     omega arith
 
 pub bounds-table-at : goal.bounds-table-at
 bounds-table-at c =
-    let h : c.seat_in-p.result.at < 5 = within c.args.unit.now c.args.m c.args.time c.look-a0.result c.look-a1.result c.look-a2.result c.look-a3.result c.look-a4.result c.seat_in-p.result c.seat_in-p.ensures in
+    let h : c.seat_in-p.result.at < 5 = seated_below c.args.unit.now c.args.m c.args.time c.look-a0.result c.look-a1.result c.look-a2.result c.look-a3.result c.look-a4.result c.seat_in-p.result c.seat_in-p.ensures in
     omega arith
 
 pub returns : goal.returns

@@ -1,0 +1,2 @@
+-- What of the buffer is told.
+pub mod Out

@@ -33,15 +33,12 @@ try() {
 }
 
 try sequence_of_65535 unit story \
-  unit_measuring/src/asking.rt '% 65_536) as u16' '% 65_535) as u16' \
+  unit_measuring/src/asking.rt 'core.domain.sequence.wrapping_add(1)' '((u32::from(core.domain.sequence) + 1) % 65_535) as u16' \
   unit_measuring/specs/Asking.antt '(k.sequence + 1) % 2 ^ 16' '(k.sequence + 1) % 65535'
 try one_step_correction_twice rules_exchange story_exchange \
-  rules_exchange/src/halves.rt 'follow: 0,
-        };
-        if two_step {' 'follow: correction,
-        };
-        if two_step {
-            sync.follow = 0;' \
+  rules_exchange/src/halves.rt 'correction,
+            follow: 0,' 'correction,
+            follow: if two_step { 0 } else { correction },' \
   rules_exchange/specs/Halves.antt 'knows n t1 t2 c (pos 0)' 'knows n t1 t2 c c'
 try wipe_unsaid unit_choosing unit \
   unit_choosing/src/lib.rt 'core.wipe(now, Answer::Choice(decision))' 'core.wipe(now, Answer::Choice(Decision::Same(chosen)))' \
@@ -51,7 +48,7 @@ use rules_masters::chosen::Decision;' \
   unit_choosing/specs/Choosing.antt 'use Rattle.rules_masters.specs.Holding.' 'use Rattle.rules_masters.specs.declared.chosen.Decision.TheVariants.{Same}
 use Rattle.rules_masters.specs.Holding.'
 try minimum_one_too_low rules_watch rules_settings \
-  rules_watch/src/settings.rt 'if self.minimum < 2 { 2 } else { self.minimum }' 'if self.minimum < 3 { 2 } else { self.minimum - 1 }' \
+  rules_watch/src/settings.rt 'self.minimum.max(2)' 'if self.minimum < 3 { 2 } else { self.minimum - 1 }' \
   rules_watch/specs/Settings.antt 'least_of t = max 2 t.minimum' 'least_of t = max 2 (t.minimum - 1)' \
   rules_watch/specs/Settings.antt 'use Rattle.std.specs.Prelude.{ℕ, min, max}' 'use Rattle.std.specs.Prelude.{ℕ, ◌-◌, min, max}'
 try steps_of_254 rules_masters demands \

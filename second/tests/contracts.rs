@@ -5,11 +5,11 @@ use std::path::{Path, PathBuf};
 
 /// The leaves of reading and writing, which alone ask something of their caller.
 const LEAVES: [&str; 9] = [
+    "octets_at",
     "u16_at",
-    "u32_at",
     "u48_at",
-    "u64_at",
     "copy_in",
+    "length_in",
     "port_at",
     "header_of",
     "stamp_at",
@@ -44,6 +44,7 @@ fn function(text: &str) -> Function {
         Some(body) => behind.lines().take(body + 1).map(|line| format!("{line}\n")).collect(),
         None => panic!("{name} has no body"),
     };
+    let name = name.split('<').next().unwrap_or(name);
     Function { name: name.to_string(), parameters: parameters[1..].to_string(), promises }
 }
 
@@ -58,6 +59,21 @@ fn functions(file: &str) -> Vec<Function> {
 fn lent(function: &Function) -> Vec<&str> {
     let named = function.parameters.split(',').filter_map(|parameter| parameter.split_once(':'));
     named.filter(|(_, of)| of.trim().starts_with("&mut ")).map(|(name, _)| name.trim()).collect()
+}
+
+/// The conversions of a source that don't say what they give.
+fn open_conversions(file: &str) -> Vec<String> {
+    let blocks =
+        file.split("\nimpl ").skip(1).map(|block| block.split("\n}\n").next().unwrap_or(block));
+    let open = |block: &&str| {
+        let head = block.lines().next().unwrap_or("");
+        head.contains("From<") && !block.contains("from_gives = { ")
+    };
+    let named = |block: &str| block.lines().next().unwrap_or("").trim_end_matches(" {").to_string();
+    blocks
+        .filter(open)
+        .map(|block| format!("{}: what it gives is not said", named(block)))
+        .collect()
 }
 
 /// What a reader of the contract would miss.
@@ -119,6 +135,7 @@ fn every_contract_settles_its_answer_and_what_is_lent() {
             read += all.len();
             let fault = |fault| format!("{}: {fault}", source.display());
             found.extend(all.iter().flat_map(faults).map(fault));
+            found.extend(open_conversions(&file).into_iter().map(fault));
         }
     }
     assert!(read > 150, "only {read} public functions were found");
@@ -153,4 +170,14 @@ fn a_contract_that_leaves_something_open_is_found() {
     let bare = "\npub fn e() -> u8 {\n    1\n}\n";
     assert_eq!(faulty(&format!("{bare}{promised}")), ["e: its answer is not settled"]);
     assert_eq!(faulty("\n// pub fn f() -> u8 {\nfn g() -> u8 {\n"), [""; 0]);
+}
+
+#[test]
+fn a_conversion_that_says_nothing_is_found() {
+    let silent = "\nimpl From<A> for B {\n    fn from(a: A) -> B {\n        B(a.0)\n    }\n}\n";
+    assert_eq!(open_conversions(silent), ["From<A> for B: what it gives is not said"]);
+    let told =
+        silent.replace("    fn from", "    ghost from_gives = { λ a b. b ≡ f a };\n\n    fn from");
+    assert_eq!(open_conversions(&told), [""; 0]);
+    assert_eq!(open_conversions(&format!("{told}{silent}")).len(), 1);
 }

@@ -1,81 +1,49 @@
-// A line of the bench's page becomes a call: one function for each call word, which reads the words behind it into typed values.
+// A line of the bench's page becomes a call: the words behind the call word are read into typed values.
 #![tactic(auto)]
 
 mod fields;
+#[cfg(test)]
+mod tests;
 pub mod to_unit;
 mod words;
 
-ghost use Rattle.std.specs.Prelude.{◌≤◌};
-ghost use Rattle.bench_calls.specs.Held.{held_by_call};
-
-use fields::{body_words, header_words, stamp_words};
+use fields::{body, header};
 use to_unit::{ToUnit, call_to_unit};
 use wire_layout::message::Message;
-use words::{begins, number, octets_at, unsigned8};
+pub use words::Octets;
+use words::Words;
 
 // Where the octets of a call are put: more than the longest line can have.
 pub type Store = [u8; 131_072];
 
-// A call's octets are the first of the store, as many as it says.
 #[derive(Clone, Copy)]
-pub enum Call {
-    Bad,
+pub enum Call<'a> {
     Lend(u8),
-    Read(usize),
-    Write(Message, usize, usize),
-    ToUnit(ToUnit),
+    Read(Octets<'a>),
+    Write(Message, Octets<'a>, usize),
+    ToUnit(ToUnit<'a>),
 }
 
-fn lend(s: &[u8], at: usize) -> Call
-    ensures { held_by_call result ≤ 131_072 }
-{
-    let count = number(s, at, 8);
-    if count.next == s.len() {
-        return Call::Lend(count.value as u8);
-    }
-    Call::Bad
+fn message(words: &mut Words) -> Option<Message> {
+    let kind = words.number()?;
+    Some(Message {
+        header: header(words)?,
+        body: body(words, kind)?,
+    })
 }
 
-fn read(s: &[u8], at: usize, octets: &mut Store) -> Call
-    ensures { held_by_call result ≤ 131_072 }
-{
-    let message = octets_at(s, at, octets);
-    if message.next == s.len() {
-        return Call::Read(message.count);
-    }
-    Call::Bad
-}
-
-fn write(s: &[u8], at: usize, octets: &mut Store) -> Call
-    ensures { held_by_call result ≤ 131_072 }
-{
-    let kind = unsigned8(s, at);
-    let head = header_words(s, kind.next);
-    let time = stamp_words(s, head.next);
-    let stamp = time.stamp;
-    let rest = body_words(s, time.next, kind.value, stamp);
-    let suffix = octets_at(s, rest.next, octets);
-    let room = number(s, suffix.next, 70_000);
-    if room.next == s.len() {
-        let header = head.header;
-        let body = rest.body;
-        return Call::Write(Message { header, body }, suffix.count, room.value as usize);
-    }
-    Call::Bad
-}
-
-// The call that the line is; its octets lie within the store.
-pub fn call_of(s: &[u8], octets: &mut Store) -> Call
-    ensures { held_by_call result ≤ 131_072 }
-{
-    if begins(s, b"lend") {
-        return lend(s, 4);
-    }
-    if begins(s, b"read") {
-        return read(s, 4, octets);
-    }
-    if begins(s, b"write") {
-        return write(s, 5, octets);
-    }
-    Call::ToUnit(call_to_unit(s, octets))
+// The call that the line is; None where it has a word too many or too few, or one that its field's type can't hold.
+pub fn call_of<'a>(line: &[u8], store: &'a mut Store) -> Option<Call<'a>> {
+    let mut words = Words::of(line)?;
+    let call = match words.word()? {
+        "lend" => Call::Lend(words.up_to(8)? as u8),
+        "read" => Call::Read(words.octets(store)?),
+        "write" => Call::Write(
+            message(&mut words)?,
+            words.octets(store)?,
+            words.up_to(70_000)?,
+        ),
+        word => Call::ToUnit(call_to_unit(word, &mut words, store)?),
+    };
+    words.word().is_none().then_some(call)
 }

@@ -1,48 +1,34 @@
 // What is answered to `read` and `write`, which need no unit.
 #![tactic(auto)]
 
-ghost use Rattle.std.specs.Prelude.{◌≤◌};
-
-use bench_answers::refused;
-use bench_text::messages::message_text;
-use bench_text::{Out, octets_field, text};
-use wire_layout::message::{Message, Part, Read, Written};
+use bench_text::{Octets, Out, Text};
+use std::io;
+use std::io::Write;
+use wire_layout::message::{Message, Part};
 
 // The octets of a part.
-fn part_of(s: &[u8], p: Part) -> &[u8] {
-    let from = p.from;
-    let to = p.to;
-    if from <= to {
-        if to <= s.len() {
-            return &s[from..to];
-        }
-    }
-    &s[0..0]
+fn part_of(octets: &[u8], part: Part) -> &[u8] {
+    octets.get(part.from..part.to).unwrap_or(b"")
 }
 
-pub fn read(out: &mut Out, at: usize, s: &[u8]) -> usize
-    ensures { result ≤ 65_536 }
-{
-    match wire_reader::read(s) {
-        Read::Got(m, p) => {
-            let end = message_text(out, at, m);
-            octets_field(out, end, b" suffix=", part_of(s, p))
+pub fn read(out: &mut Out, octets: &[u8]) -> io::Result<()> {
+    match wire_reader::read(octets) {
+        Ok((message, suffix)) => {
+            let suffix = part_of(octets, suffix);
+            write!(out, "{} suffix={}", Text(message), Octets(suffix))
         }
-        Read::Refused(refusal) => refused(out, at, refusal),
+        Err(refusal) => write!(out, "{}", Text(refusal)),
     }
 }
 
 // The part that is lent to writing has `room` octets, each ee before the call.
-pub fn write(out: &mut Out, at: usize, m: Message, suffix: &[u8], room: usize) -> usize
-    ensures { result ≤ 65_536 }
-{
+pub fn write(out: &mut Out, message: Message, suffix: &[u8], room: usize) -> io::Result<()> {
     let mut whole = [0xeeu8; 70_000];
-    if 70_000 < room {
-        return text(out, at, b"bad line");
-    }
-    let part = &mut whole[0..room];
-    match wire_writer::write(m, suffix, part) {
-        Written::Wrote(_) => octets_field(out, at, b"wrote ", part),
-        Written::Barred(refusal) => refused(out, at, refusal),
+    let Some(part) = whole.get_mut(..room) else {
+        return write!(out, "bad line");
+    };
+    match wire_writer::write(message, suffix, part) {
+        Ok(_) => write!(out, "wrote {}", Octets(part)),
+        Err(refusal) => write!(out, "{}", Text(refusal)),
     }
 }

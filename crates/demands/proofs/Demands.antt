@@ -1,9 +1,10 @@
 -- What is demanded of the whole, each as a theorem with the demand above it. The files beside this one prove what it cites, and need not be read.
 --
--- `served_of c call` is what a unit answers to a call as it is handed over, and the unit after it: the promise of the compiled `handing::receive`,
--- `handing::time`, `Unit::serve` and `request_into`. `lends p call` is what a call for C leaves of the parts that it is lent, octet by octet: the promise
+-- `served_of c call` is what a unit answers to a call as it is handed over, and the unit after it: the promise of the compiled `unit_handing::receive`,
+-- `unit_handing::time`, `unit_handing::serve` and `request_into`. `lends p call` is what a call for C leaves of the parts that it is lent, octet by octet: the promise
 -- of the exports of the crate door. None of these functions asks anything of its caller, so whatever stands here holds of every call that is made.
 -- A list of calls holds octets, frames and the lengths of lent tables. `book s calls` has those that were not refused, each with its answer.
+use Rattle.std.specs.Prelude.{Ok, Err}
 use mathlib.Core.Path.{◌≡◌, refl, sym, ap, subst, ◌∙◌}
 use mathlib.Core.Logic.{◌⊎◌, ◌↔◌}
 use mathlib.Core.Bool.{true, false}
@@ -19,8 +20,6 @@ use Rattle.numbers.specs.Orders.{number_of}
 use Rattle.wire_octets.proofs.Digits.{Octets}
 use Rattle.wire_layout.specs.declared.message.Message.{Message}
 use Rattle.wire_layout.specs.declared.message.Part.{Part}
-use Rattle.wire_layout.specs.declared.message.Read.TheVariants as reads
-use Rattle.wire_layout.specs.declared.message.Written.TheVariants as writes
 use Rattle.wire_layout.specs.Kinds.{body_size}
 use Rattle.wire_layout.specs.Reading.{read_of, suffix_in}
 use Rattle.wire_layout.specs.Writing.{octets_of, write_of, left_by}
@@ -34,7 +33,6 @@ use Rattle.rules_watch.specs.Lines.{Right}
 use Rattle.rules_watch.specs.Watch.{samples_in}
 use Rattle.rules_settings.specs.declared.Settings.{Settings}
 use Rattle.rules_settings.specs.declared.Given.{Given}
-use Rattle.rules_settings.specs.declared.Set.TheVariants.{Accepted, Refused as NotSet}
 use Rattle.rules_settings.specs.Ranges.{as_given, settings_of}
 use Rattle.unit_core.specs.declared.calls.Answer.{Answer}
 use Rattle.unit_core.specs.declared.calls.Answer.TheVariants as answers
@@ -80,12 +78,12 @@ pub refusal-keeps : (c : Unit) (call : Handed ℕ) → is_refusal (served_of c c
 refusal-keeps c call h = (served.refusal-keeps c call h, refusal-keeps-frame c call h)
 
 -- of writing: what was refused leaves the lent part
-pub refused-writing-keeps : (m : Message) (suffix part : List ℕ) (r : Refusal) → write_of m suffix (length part) ≡ writes.Barred r
+pub refused-writing-keeps : (m : Message) (suffix part : List ℕ) (r : Refusal) → write_of m suffix (length part) ≡ Err r
     → left_by (write_of m suffix (length part)) m suffix part ≡ part
 refused-writing-keeps m suffix part r h = rw h
 
 -- of settings: they are taken as they were given, or refused
-pub settings-answered : (g : Given) → (settings_of g ≡ Accepted (as_given g)) ⊎ (settings_of g ≡ NotSet refusals.Settings)
+pub settings-answered : (g : Given) → (settings_of g ≡ Ok (as_given g)) ⊎ (settings_of g ≡ Err refusals.Settings)
 settings-answered g = set-or-not g
 
 -- of every call for C: whatever octets are in the parts, and however long the table is
@@ -106,12 +104,12 @@ one_answer definition a b p q = p ∙ sym q
 -- ==== Demand 2. Messages as IEEE 1588-2019 lays them out; choice, delay, offset and output by the rules.
 
 -- what was written is read
-pub read-what-was-written : (m : Message) (suffix part : List ℕ) (n : ℕ) → MessageIn m → write_of m suffix (length part) ≡ writes.Wrote n
-    → read_of (left_by (writes.Wrote n) m suffix part) ≡ reads.Got m (record { from = body_size m.body; to = n })
+pub read-what-was-written : (m : Message) (suffix part : List ℕ) (n : ℕ) → MessageIn m → write_of m suffix (length part) ≡ Ok n
+    → read_of (left_by (Ok n) m suffix part) ≡ Ok (m, record { from = body_size m.body; to = n })
 read-what-was-written m suffix part n i h = there_and_back m suffix part n i h
 
 -- what was read is written: the same octets, up to messageLength
-pub write-what-was-read : (octets : List ℕ) (m : Message) (p : Part) → Octets octets → read_of octets ≡ reads.Got m p → octets_of m p.to ++ suffix_in octets ≡ take p.to octets
+pub write-what-was-read : (octets : List ℕ) (m : Message) (p : Part) → Octets octets → read_of octets ≡ Ok (m, p) → octets_of m p.to ++ suffix_in octets ≡ take p.to octets
 write-what-was-read octets m p o h = written_read octets m p o h
 
 -- from a fresh unit, whatever its settings, after any list of calls, the oldest first, refused ones of every kind among them
@@ -132,14 +130,14 @@ module _ (s : Settings) (list : List (Handed ℕ)) where
 
   -- and it is written whole, 44 octets: so what is read of them is that message, by the first round trip above
   pub request-written : (frame : List ℕ) (at n : ℕ) → is_refusal (served_of (unit_after s list) (request frame at)).answer ≡ false
-      → write_of (request_of s.domain s.own n) [] (length frame - 14) ≡ writes.Wrote 44
+      → write_of (request_of s.domain s.own n) [] (length frame - 14) ≡ Ok 44
   request-written frame at n h = whole s list frame at n h
 
 -- ==== Demand 3. A line is given exactly when the valid samples taken since the last wipe and still in the window reach the set minimum and the holdoff
 -- has run out; it is the line of least squares through them.
 
 -- from a fresh unit whose settings were accepted, in terms of what was set
-module _ (g : Given) (set : settings_of g ≡ Accepted (as_given g)) (list : List (Handed ℕ)) where
+module _ (g : Given) (set : settings_of g ≡ Ok (as_given g)) (list : List (Handed ℕ)) where
   abbrev answered : Answer
   answered = (served_of (unit_after (as_given g) list) line).answer
 
@@ -268,7 +266,7 @@ module _ (s : Settings) (list : List (Handed Table)) where
       ∙ request-told s (map counted_in list) frame at (sym (refused-words (served_of (unit_after s (map counted_in list)) (request frame at)).answer) ∙ ap (λ (m : Meant). is_refused m.answer) (sym e) ∙ h)
 
 -- demand 3, in numbers
-module _ (g : Given) (set : settings_of g ≡ Accepted (as_given g)) (list : List (Handed Table)) where
+module _ (g : Given) (set : settings_of g ≡ Ok (as_given g)) (list : List (Handed Table)) where
   door-line : (lends (parts_after (as_given g) list) line).answer ≡ answer_words (answered g set (map counted_in list))
   unfolding means
   door-line = ap (λ (m : Meant). m.answer) (loop-answers (as_given g) list line)

@@ -1,23 +1,23 @@
 -- A call for C that is refused leaves every octet that it was lent as it was, whatever is there and however long the table is.
+use Rattle.std.specs.Prelude.{Ok, Err}
 use mathlib.Core.Path.{◌≡◌, refl, sym, ◌∙◌}
-use mathlib.Core.Bool.{Bool, true, false, cond}
+use mathlib.Core.Bool.{true, false}
 use mathlib.Core.List.{List, []}
 use Prim.Native.Nat.{ℕ}
 use lib.Dec.{eqb}
 use lib.IntN.{ℤ}
 use lib.ListN.{length}
 use Rattle.numbers.specs.declared.stamp.Stamp.{Stamp}
-use Rattle.numbers.specs.declared.ruling.Ruling.{Ruling}
-use Rattle.numbers.specs.declared.ruling.Ruling.TheVariants.{Clear, Barred}
+use Rattle.numbers.specs.Grounds.{Ruling}
+use Rattle.rules_exchange.specs.Events.{Answer as Tells}
 use Rattle.numbers.specs.Grounds.{first_of}
-use Rattle.numbers.specs.Orders.{of_exchange, of_time}
+use Rattle.numbers.specs.Orders.{number_of, of_exchange, of_time}
 use Rattle.wire_layout.specs.declared.message.Message.{Message}
 use Rattle.wire_layout.specs.Reading.{read_of}
 use Rattle.rules_masters.specs.declared.chosen.Chosen.{Chosen}
 use Rattle.rules_masters.specs.declared.chosen.Decision.{Decision}
+use Rattle.rules_masters.specs.Admitting.{Answer as Admission}
 use Rattle.rules_masters.specs.Holding.{same_master_of}
-use Rattle.rules_exchange.specs.declared.Answer.{Answer as Tells}
-use Rattle.rules_exchange.specs.declared.Answer.TheVariants as tells
 use Rattle.rules_exchange.specs.declared.Exchange.{Exchange}
 use Rattle.rules_exchange.specs.declared.said.Said.{Said}
 use Rattle.rules_exchange.specs.declared.said.Said.TheVariants.{Held, Paired, Asked, Stamped, Back, Neg, Long, Huge, HugeFaulty, Path, PathWiped, Step, Measured}
@@ -28,9 +28,8 @@ use Rattle.rules_servo.specs.declared.Servo.{Servo}
 use Rattle.rules_watch.specs.declared.Watch.{Watch}
 use Rattle.rules_watch.specs.declared.Pulse.{Pulse}
 use Rattle.rules_watch.specs.declared.Pulse.TheVariants as pulses
-use Rattle.rules_watch.specs.declared.Answer.TheVariants as ticked
 use Rattle.rules_watch.specs.Rules.{wipes_of, code_of as pulse_code, pulse_of}
-use Rattle.rules_watch.specs.Watch.{taken_by, took_of, since_of}
+use Rattle.rules_watch.specs.Watch.{taken_by, since_of}
 use Rattle.unit_core.specs.Effects.{stays_of}
 use Rattle.unit_choosing.specs.Choosing.{time_due}
 use Rattle.unit_measuring.specs.Barring.{own_due}
@@ -44,18 +43,16 @@ use Rattle.wire_frames.specs.Frames.{request_of as delay_req}
 use Rattle.door_records.specs.declared.unit.UnitWords.{UnitWords}
 use Rattle.door_records.specs.declared.unit.StateWords.{StateWords}
 use Rattle.door_records.specs.declared.masters.MasterWords.{MasterWords}
-use Rattle.door_records.specs.Unit.{settings_in, own_in, exchange_in, watch_in, core_of, delays_words}
+use Rattle.door_records.specs.Unit.{settings_in, own_in, exchange_in, watch_in, core_in, core_of, delays_words}
 use Rattle.door_words.specs.declared.answers.AnswerWords.{AnswerWords}
 use Rattle.door_words.specs.Answers.{refusing}
 use Rattle.door_core.specs.declared.receiving.Received.{Received}
-use Rattle.door_core.specs.Receiving.{received_by}
-use Rattle.door_core.specs.Ticking.{ticked_by}
-use Rattle.door_choosing.specs.declared.Seated.{Seated}
+use Rattle.door_core.specs.declared.receiving.Received.TheVariants.{Announce, Exchange as Exchanged}
+use Rattle.door_core.specs.Receiving.{Sorted, received_by}
 use Rattle.door_choosing.specs.Choosing.{held_by, held_of, held_unless, untabled_of}
-use Rattle.door_measuring.specs.declared.measuring.Told.{Told}
-use Rattle.door_measuring.specs.Measuring.{told_by, unless_told, heard_told, sent_told, servo_after}
+use Rattle.door_measuring.specs.Measuring.{told_by, unless_told}
 use Rattle.door_measuring.specs.Asking.{requested_by}
-use Rattle.door_loop.specs.Lending.{Lent, says, unit_with, spoken_in, told_in, lent_by, chosen_in, placed_in, seat_in, seated_in, open_in, received_in, receive_of, time_of, unit_asking, sent_of, ticked_in, tick_of}
+use Rattle.door_loop.specs.Lending.{Lent, says, unit_with, told_in, heard_in, lent_by, chosen_in, placed_in, seat_in, seated_in, passed_in, open_in, received_in, receive_of, time_of, unit_asking, sent_of, ticked_in, tick_of}
 use Rattle.door_loop.specs.Loop.{Parts, Table, own, stray, lends}
 use Rattle.demands.specs.Words.{is_refused, stray_in}
 
@@ -75,14 +72,6 @@ said-speaks PathWiped = refl
 said-speaks (Step offset) = refl
 said-speaks (Measured found) = refl
 
-told-speaks : (t : StateWords) (now : ℕ) (a : Tells) (x : Exchange) → eqb (told_by t now a x).code 0 ≡ (told_by t now a x).barred
-told-speaks t now (tells.Refused n) x = refl
-told-speaks t now (tells.Says said) x = said-speaks said
-
-unless-speaks : (t : StateWords) (v : Ruling) (q : Told) → eqb q.code 0 ≡ q.barred → eqb (unless_told t v q).code 0 ≡ (unless_told t v q).barred
-unless-speaks t Clear q e = e
-unless-speaks t (Barred n) q e = refl
-
 pub pulse-speaks : (p : Pulse) → eqb (pulse_code p) 0 ≡ false
 pulse-speaks pulses.Valid = refl
 pulse-speaks pulses.Invalid = refl
@@ -99,43 +88,40 @@ module _ (u : UnitWords) (v : Servo) (w : Watch) where
     kept-says a h = (refl, refl, refl, refl)
 
     -- ---- the exchange
-    kept-told : (q : Told) → eqb q.code 0 ≡ q.barred → Kept (told_in u v t w q)
-    kept-told q e = go q.barred e
-      where
-        go : (b : Bool) → eqb q.code 0 ≡ b
-            → Kept (cond b (says u v t w (refusing q.number)) (spoken_in u t w q (servo_after u.settings v q.found q.steers q.wipes)))
-        go true e = kept-says (refusing q.number)
-        go false e = λ h. absurd (never (sym e ∙ h))
+    kept-told : (now : ℕ) (a : Tells) (x : Exchange) → Kept (told_in u v t w (told_by u.state now a x))
+    kept-told now (Err n) x = kept-says (refusing (number_of n))
+    kept-told now (Ok said) x = λ h. absurd (never (sym (said-speaks said) ∙ h))
+
+    kept-unless : (now : ℕ) (r : Ruling) (a : Tells) (x : Exchange) → Kept (told_in u v t w (unless_told r (told_by u.state now a x)))
+    kept-unless now (Ok _) a x = kept-told now a x
+    kept-unless now (Err n) a x = kept-says (refusing (number_of n))
 
     -- ---- the choice
     not-held : (x : List MasterWords) (s : StateWords) (now : ℕ) (c : Chosen) → is_refused (lent_by u v x w (held_of s now c)).answer ≡ true → ⊥
     unfolding held_of
     not-held x s now c = by_test (λ (d : Decision). is_refused (lent_by u v x w (held_by s now c d)).answer ≡ true → ⊥) (same_master_of _ c) never never
 
-    kept-seated : (m : Message) (now : ℕ) (p : Seated) → Kept (seated_in u v t w m now p)
-    kept-seated m now p =
-        by_test Kept p.barred (kept-says (refusing p.number))
-        (λ h. absurd (not-held (placed_in t m now p) u.state now (chosen_in u (placed_in t m now p) now) h))
+    kept-seated : (m : Message) (now : ℕ) (p : Admission) → Kept (seated_in u v t w m now p)
+    kept-seated m now (Err n) = kept-says (refusing (number_of n))
+    kept-seated m now (Ok p) = λ h. absurd (not-held (placed_in t m now p) u.state now (chosen_in u (placed_in t m now p) now) h)
 
-    kept-timed : (now : ℕ) (r : Ruling) (c : Chosen) → Kept (lent_by u v t w (held_unless u.state r (held_of u.state now c)))
-    kept-timed now Clear c = λ h. absurd (not-held t u.state now c h)
-    kept-timed now (Barred n) c = λ h. (refl, refl, refl, refl)
+    kept-timed : (now : ℕ) (r : Ruling) (c : Chosen) → Kept (passed_in u v t w (held_unless r (held_of u.state now c)))
+    kept-timed now (Ok _) c = λ h. absurd (not-held t u.state now c h)
+    kept-timed now (Err n) c = kept-says (refusing (number_of n))
 
     -- ---- a message, and the bare time call
-    heard-speaks : (m : Message) (now : ℕ) (t2 : Stamp)
-        → eqb (heard_told u.settings u.state u.halves u.delays m now t2).code 0 ≡ (heard_told u.settings u.state u.halves u.delays m now t2).barred
-    heard-speaks m now t2 =
+    kept-heard : (m : Message) (now : ℕ) (t2 : Stamp) → Kept (heard_in u v t w m now t2)
+    kept-heard m now t2 =
         let a = handed (exchange_in u.halves u.delays) (own_in u.settings) t2 m.header m.body in
-        unless-speaks u.state (first_of (message_grounds (settings_in u.settings) (stays_of (core_of u.settings u.state u.halves u.delays)) now t2 m.header m.body))
-        (told_by u.state now a.answer a.exchange) (told-speaks u.state now a.answer a.exchange)
+        kept-unless now (first_of (message_grounds (settings_in u.settings) (stays_of (core_in u)) now t2 m.header m.body)) a.answer a.exchange
 
     kept-open : (k : Received) (now : ℕ) (t2 : Stamp) → Kept (open_in u v t w k now t2)
-    kept-open k now t2 =
-        by_test Kept k.announces (kept-seated k.message now (seat_in u t k.message now))
-        (kept-told (heard_told u.settings u.state u.halves u.delays k.message now t2) (heard-speaks k.message now t2))
+    kept-open (Announce m) now t2 = kept-seated m now (seat_in u t m now)
+    kept-open (Exchanged m) now t2 = kept-heard m now t2
 
-    kept-received : (k : Received) (now : ℕ) (t2 : Stamp) → Kept (received_in u v t w k now t2)
-    kept-received k now t2 = by_test Kept k.barred (kept-says (refusing k.number)) (by_test Kept (eqb (length t) 5) (kept-open k now t2) (kept-says untabled_of))
+    kept-received : (k : Sorted) (now : ℕ) (t2 : Stamp) → Kept (received_in u v t w k now t2)
+    kept-received (Err r) now t2 = kept-says (refusing (number_of r))
+    kept-received (Ok k) now t2 = by_test Kept (eqb (length t) 5) (kept-open k now t2) (kept-says untabled_of)
 
     pub kept-receive : (octets : List ℕ) (now : ℕ) (t2 : Stamp) → Kept (receive_of u v t w octets now t2)
     kept-receive octets now t2 = kept-received (received_by (read_of octets)) now t2
@@ -147,24 +133,22 @@ module _ (u : UnitWords) (v : Servo) (w : Watch) where
   pub kept-sent : (now sequence : ℕ) (t3 : Stamp) → Kept [] (sent_of u v w now sequence t3)
   kept-sent now sequence t3 =
       let a = told (exchange_in u.halves u.delays) (leaves sequence t3) in
-      kept-told [] (sent_told u.settings u.state u.halves u.delays now sequence t3)
-      (unless-speaks u.state (first_of (of_exchange (own_due (stays_of (core_of u.settings u.state u.halves u.delays)) now (field_of t3))))
-      (told_by u.state now a.answer a.exchange) (told-speaks u.state now a.answer a.exchange))
+      kept-unless [] now (first_of (of_exchange (own_due (stays_of (core_in u)) now (field_of t3)))) a.answer a.exchange
 
-  not-pulsed : (p : Pulse) (x : Watch) → Kept [] (ticked_in u v (record { answer = ticked.Says p; watch = x }) (ticked_by (record { head = x.head; answer = ticked.Says p })))
+  not-pulsed : (p : Pulse) (x : Watch) → Kept [] (ticked_in u v (record { answer = Ok p; watch = x }))
   not-pulsed p x = by_test (Kept []) (wipes_of p) (λ h. absurd (never (sym (pulse-speaks p) ∙ h))) (λ h. absurd (never (sym (pulse-speaks p) ∙ h)))
 
   pub kept-tick : (reference clock : ℤ) → Kept [] (tick_of u v w reference clock)
   kept-tick reference clock =
-      every-outcome (λ o. Kept [] (ticked_in u v (taken_by (watch_in u.settings) w o) (ticked_by (took_of (taken_by (watch_in u.settings) w o)))))
+      every-outcome (λ o. Kept [] (ticked_in u v (taken_by (watch_in u.settings) w o)))
       (λ n h. (refl, refl, refl, refl)) (λ p k. not-pulsed p w) (λ origin x. not-pulsed (pulse_of x.valid) _)
       (watch_in u.settings) (since_of w) reference clock
 
   -- ---- a request, and its frame
   pub kept-request : (now : ℕ) (r : Ruling) → is_refused (requested_by u.state u.halves now r).answer ≡ true
       → (m : Message) (f : List ℕ) → (unit_with u (requested_by u.state u.halves now r).state (requested_by u.state u.halves now r).halves u.delays ≡ u) × (frame_by r m f ≡ f)
-  kept-request now Clear h m f = absurd (never h)
-  kept-request now (Barred n) h m f = (refl, refl)
+  kept-request now (Ok _) h m f = absurd (never h)
+  kept-request now (Err n) h m f = (refl, refl)
 
 -- ---- every call
 -- the parts as they were

@@ -1,4 +1,5 @@
 -- Every output that the book gives lies within the set limit.
+use Rattle.std.specs.Prelude.{Ok, Err}
 use mathlib.Core.Path.{subst}
 use mathlib.Core.List.{List, [], ◌∷◌}
 use Prim.Native.Nat.{ℕ, ◌≤◌, ◌%◌, ◌^◌}
@@ -7,8 +8,12 @@ use lib.IntN.{ℤ, nat_abs}
 use Rattle.numbers.specs.Integers.{up}
 use Rattle.numbers.specs.declared.stamp.Stamp.{Stamp}
 use Rattle.numbers.specs.declared.units.Ppb.{Ppb}
-use Rattle.numbers.specs.declared.ruling.Ruling.{Ruling}
-use Rattle.numbers.specs.declared.ruling.Ruling.TheVariants as rulings
+use Rattle.numbers.specs.Grounds.{Ruling}
+use Rattle.rules_masters.specs.Admitting.{Answer as Admission}
+use Rattle.rules_masters.specs.declared.admission.Entry.TheVariants as admission
+use Rattle.rules_exchange.specs.Events.{Answer as Told}
+use Rattle.rules_watch.specs.Rules.{Outcome, Drift}
+use Rattle.unit_handing.specs.Handing.{Asked}
 use Rattle.numbers.specs.Grounds.{first_of}
 use Rattle.numbers.specs.Orders.{Due, of_exchange, of_time}
 use Rattle.wire_layout.specs.declared.message.Header.{Header}
@@ -16,19 +21,12 @@ use Rattle.wire_layout.specs.declared.message.Body.{Body}
 use Rattle.wire_layout.specs.declared.message.Body.TheVariants as bodies
 use Rattle.rules_masters.specs.declared.record.Announce.{Announce}
 use Rattle.rules_masters.specs.declared.chosen.Decision.TheVariants as decisions
-use Rattle.rules_masters.specs.declared.admission.Answer.{Answer as Admission}
-use Rattle.rules_masters.specs.declared.admission.Answer.TheVariants as admission
-use Rattle.rules_exchange.specs.declared.Answer.{Answer as Told}
-use Rattle.rules_exchange.specs.declared.Answer.TheVariants as tells
 use Rattle.rules_exchange.specs.Said.{wipes_of, verdict_of, steers_of}
 use Rattle.rules_exchange.specs.Events.{field_of}
 use Rattle.rules_exchange.specs.Table.{Event, sync, requested, sent, follow_up, delay_resp}
 use Rattle.rules_servo.specs.Steps.{limit_of}
 use Rattle.rules_servo.proofs.Theorems.{output-kept}
-use Rattle.rules_watch.specs.declared.Drift.{Drift}
-use Rattle.rules_watch.specs.declared.Drift.TheVariants as drift
-use Rattle.rules_watch.specs.declared.judging.Outcome.{Outcome}
-use Rattle.rules_watch.specs.declared.judging.Outcome.TheVariants.{Refuse, Wipe, Take}
+use Rattle.rules_watch.specs.declared.judging.Judged.TheVariants.{Wipe, Take}
 use Rattle.rules_watch.specs.Rules.{outcome, line_since}
 use Rattle.rules_settings.specs.declared.Settings.{Settings}
 use Rattle.unit_core.specs.declared.calls.Call.{Call}
@@ -41,8 +39,6 @@ use Rattle.unit_measuring.specs.Hearing.{two_step_in}
 use Rattle.unit_measuring.specs.Asking.{request_due}
 use Rattle.unit_ticking.specs.Ticking.{line_by}
 use Rattle.unit_ticking.proofs.Pulses.{by_test}
-use Rattle.unit_handing.specs.declared.Asked.{Asked}
-use Rattle.unit_handing.specs.declared.Asked.TheVariants.{Barred, Asks}
 use Rattle.story_exchange.specs.Rules.{answer as exchange_answer}
 use Rattle.story_servo.specs.Offsets.{output}
 use Rattle.story_servo.proofs.Refines.{machine, tells as servo-tells}
@@ -69,21 +65,21 @@ module _ (s : Settings) where
   module _ (b : Book) where
     -- ---- the exchange
     limited-told : (a : Told) → Limited (unit_answer s b a)
-    limited-told (tells.Refused n) = omega arith
-    limited-told (tells.Says said) = by_test (λ (x : Ppb). nat_abs x.0 ≤ up s.limit.0) (wipes_of said) (limited-output []) (limited-output (with_it (then (verdict_of said) offset_by) (offsets b)))
+    limited-told (Err n) = omega arith
+    limited-told (Ok said) = by_test (λ (x : Ppb). nat_abs x.0 ≤ up s.limit.0) (wipes_of said) (limited-output []) (limited-output (with_it (then (verdict_of said) offset_by) (offsets b)))
 
     limited-unless : (v : Ruling) (a : Answer) → Limited a → Limited (unless_barred v a)
-    limited-unless rulings.Clear a h = h
-    limited-unless (rulings.Barred n) a h = omega arith
+    limited-unless (Ok _) a h = h
+    limited-unless (Err n) a h = omega arith
 
     limited-calling : (due : Due) (e : Event) → Limited (calling s b due e)
     limited-calling due e = limited-unless (first_of (of_exchange due)) (event_answer s b e) (limited-told (exchange_answer (exchange_log s b) e))
 
     -- ---- the choice
     limited-admission : (now : ℕ) (m : Announce) (a : Admission) → Limited (admission_answer s b now m a)
-    limited-admission now m (admission.Refused n) = omega arith
-    limited-admission now m (admission.Renewed p) = omega arith
-    limited-admission now m (admission.Entered p) = omega arith
+    limited-admission now m (Err n) = omega arith
+    limited-admission now m (Ok (admission.Renewed p)) = omega arith
+    limited-admission now m (Ok (admission.Entered p)) = omega arith
 
     limited-message : (now : ℕ) (t2 : Stamp) (h : Header) (m : Body) → Limited (message_answer s b now t2 h m)
     limited-message now t2 h (bodies.Announce stamp offer) = limited-admission now (record { header = h; stamp = stamp; offer = offer }) (seat_answer s.domain s.own s.announce (seats s b) (record { header = h; stamp = stamp; offer = offer }) now)
@@ -94,13 +90,13 @@ module _ (s : Settings) where
 
     -- ---- the watch
     limited-pulse : (o : Outcome) → Limited (pulse_answer s b o)
-    limited-pulse (Refuse n) = omega arith
-    limited-pulse (Wipe p) = omega arith
-    limited-pulse (Take origin x) = omega arith
+    limited-pulse (Err n) = omega arith
+    limited-pulse (Ok (Wipe p)) = omega arith
+    limited-pulse (Ok (Take origin x)) = omega arith
 
     limited-line : (d : Drift) (n : ℕ) → Limited (line_by d n)
-    limited-line (drift.Refused r) n = omega arith
-    limited-line (drift.Line q) n = omega arith
+    limited-line (Err r) n = omega arith
+    limited-line (Ok q) n = omega arith
 
     -- ---- every call
     limited-answer : (call : Call) → Limited (answer s b call)
@@ -115,8 +111,8 @@ module _ (s : Settings) where
     limited-answer calls.Show = limited-output (offsets b)
 
     pub limited : (a : Asked) → Limited (answer_to s b a)
-    limited (Barred r) = omega arith
-    limited (Asks call) = limited-answer call
+    limited (Err r) = omega arith
+    limited (Ok call) = limited-answer call
 
 -- the output that an answer has as numbers is the one that it tells, or 0
 pub words-output : (a : Answer) → nat_abs (answer_words a).output.0 ≤ nat_abs (output_in a)

@@ -1,4 +1,5 @@
 -- The line that is answered: when it is given, and that it is that of the samples in the window.
+use Rattle.std.specs.Prelude.{Ok, Err}
 use mathlib.Core.Path.{◌≡◌, sym, ap, subst, ◌∙◌}
 use mathlib.Core.Bool.{cond}
 use mathlib.Core.List.{List, reverse}
@@ -7,8 +8,7 @@ use native.Mathlib.Omega.{arith}
 use lib.ListN.{length}
 use Rattle.numbers.specs.declared.refusal.Refusal.TheVariants.{NotReady}
 use Rattle.rules_watch.specs.declared.totals.Line.{Line as DriftLine}
-use Rattle.rules_watch.specs.declared.Drift.{Drift}
-use Rattle.rules_watch.specs.declared.Drift.TheVariants as drift
+use Rattle.rules_watch.specs.Rules.{Drift}
 use Rattle.rules_watch.specs.Window.{last_n}
 use Rattle.rules_watch.specs.Totals.{points_of, line_through}
 use Rattle.rules_watch.specs.Lines.{Right}
@@ -19,7 +19,6 @@ use Rattle.rules_watch.proofs.Lines.{drift-right}
 use Rattle.rules_watch.proofs.Story.{good-line}
 use Rattle.rules_settings.specs.declared.Settings.{Settings}
 use Rattle.rules_settings.specs.declared.Given.{Given}
-use Rattle.rules_settings.specs.declared.Set.TheVariants.{Accepted}
 use Rattle.rules_settings.specs.Ranges.{as_given, settings_of}
 use Rattle.rules_settings.proofs.Accepting.{accepted-size, accepted-least, accepted-wait}
 use Rattle.unit_core.specs.declared.calls.Answer.TheVariants.{Line}
@@ -32,11 +31,11 @@ use Rattle.story.proofs.Refines.{past-tells, unit-refines}
 use Rattle.demands.specs.Words.{unit_after, taken, window, is_due, wipes_counted}
 use Rattle.demands.proofs.Requests.{memory}
 
-line-parts : (d : Drift) (m n : ℕ) (q : DriftLine) → line_by d m ≡ Line q n → (d ≡ drift.Line q) × (m ≡ n)
-line-parts (drift.Refused r) m n q e = let z : ◌≡◌ {A = ℕ} 0 1 = cc in absurd (omega arith)
-line-parts (drift.Line l) m n q e = (cc, cc)
+line-parts : (d : Drift) (m n : ℕ) (q : DriftLine) → line_by d m ≡ Line q n → (d ≡ Ok q) × (m ≡ n)
+line-parts (Err r) m n q e = let z : ◌≡◌ {A = ℕ} 0 1 = cc in absurd (omega arith)
+line-parts (Ok l) m n q e = (cc, cc)
 
-module _ (g : Given) (set : settings_of g ≡ Accepted (as_given g)) (list : List (Handed ℕ)) where
+module _ (g : Given) (set : settings_of g ≡ Ok (as_given g)) (list : List (Handed ℕ)) where
   abbrev s : Settings
   s = as_given g
 
@@ -44,7 +43,7 @@ module _ (g : Given) (set : settings_of g ≡ Accepted (as_given g)) (list : Lis
   since = samples s (book s (reverse list))
 
   abbrev drifts : Drift
-  drifts = cond (is_due g list) (drift.Line (line_through (points_of (window g list)))) (drift.Refused NotReady)
+  drifts = cond (is_due g list) (Ok (line_through (points_of (window g list)))) (Err NotReady)
 
   -- what the book answers
   since-told : line_since s.watch since ≡ drifts

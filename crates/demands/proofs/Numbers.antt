@@ -1,5 +1,6 @@
 -- Numbers, by computation. P1 to P12 together (rules 11.1 to 11.12): one statement over the list, each proved where its rules are. Then the formulas
 -- without memory, each on both sides of each of its boundaries (rule 11.14); what is expected is worked out by hand from the rule that the line cites.
+use Rattle.std.specs.Prelude.{Ok, Err}
 use mathlib.Core.Path.{◌≡◌, refl, ap}
 use mathlib.Core.Bool.{Bool, true, false}
 use mathlib.Core.List.{List, [], ◌∷◌}
@@ -7,8 +8,9 @@ use Prim.Native.Nat.{ℕ, ◌+◌}
 use lib.IntN.{ℤ, pos, negsuc, neg_ℤ}
 use Rattle.numbers.specs.declared.stamp.Stamp.{Stamp}
 use Rattle.numbers.specs.declared.refusal.Refusal.TheVariants.{Now, Faulty, Domain, NotMaster, Field, Room, Own, Alternate, Steps}
-use Rattle.numbers.specs.declared.ruling.Ruling.{Ruling}
-use Rattle.numbers.specs.declared.ruling.Ruling.TheVariants.{Clear, Barred}
+use Rattle.numbers.specs.Grounds.{Ruling}
+use Rattle.rules_exchange.specs.Events.{Answer}
+use Rattle.rules_watch.specs.Rules.{Drift}
 use Rattle.numbers.specs.Grounds.{first_of}
 use Rattle.numbers.specs.Orders.{none_due, of_exchange, of_time}
 use Rattle.numbers.specs.Rounding.{rounded_of, half_to_even, floor_z, held_within}
@@ -24,8 +26,6 @@ use Rattle.rules_delays.specs.Median.{count_below, middling, first_middling, low
 use Rattle.rules_delays.specs.Delays.{path_by, used_by}
 use Rattle.rules_measure.specs.declared.Sum.TheVariants as sums
 use Rattle.rules_measure.specs.Measure.{cut_of, forward_of, back_of, sum_of, huge_of, is_step}
-use Rattle.rules_exchange.specs.declared.Answer.{Answer}
-use Rattle.rules_exchange.specs.declared.Answer.TheVariants.{Says}
 use Rattle.rules_exchange.specs.declared.said.Said.TheVariants.{Neg, Long}
 use Rattle.rules_exchange.specs.Events.{fresh_exchange, measured_with, correction_of}
 use Rattle.rules_exchange.proofs.Examples.{Measurement, of, answers_to, p1, p2, p3, p4, p5, p5-long, p6, p9-no-step}
@@ -34,11 +34,9 @@ use Rattle.rules_servo.specs.Offsets.{opposites_in, swings_of}
 use Rattle.rules_servo.specs.Shows.{sum, squares, near, is_tracking, is_holdover}
 use Rattle.rules_servo.proofs.Theorems.{outputs, p7, p8, p9, p10}
 use Rattle.rules_fit.specs.Nearest.{nearest_float}
-use Rattle.rules_watch.specs.declared.Drift.{Drift}
-use Rattle.rules_watch.specs.declared.Drift.TheVariants.{Line}
 use Rattle.rules_watch.specs.declared.Pulse.TheVariants.{Back, Range, Jump}
-use Rattle.rules_watch.specs.declared.judging.Outcome.{Outcome}
-use Rattle.rules_watch.specs.declared.judging.Outcome.TheVariants.{Wipe, Take}
+use Rattle.rules_watch.specs.declared.judging.Judged.{Judged}
+use Rattle.rules_watch.specs.declared.judging.Judged.TheVariants.{Wipe, Take}
 use Rattle.rules_watch.specs.Rules.{Stamps, fresh_since, outside_of, followed, on_last, inside}
 use Rattle.rules_watch.specs.Watch.{fresh_watch, watch_after, watch_line}
 use Rattle.rules_watch.proofs.Examples.{bench, p11, p12}
@@ -68,10 +66,10 @@ abbrev line_after : List Stamps → Met
 line_after l = lined (watch_line bench (watch_after bench fresh_watch l))
 
 abbrev line_of : ℤ → ℤ → ℤ → Met
-line_of b d thousand = lined (Line (record { level = pos 0; slope = b; over = d; n = pos 3; ppm = nearest_float b thousand }))
+line_of b d thousand = lined (Ok (record { level = pos 0; slope = b; over = d; n = pos 3; ppm = nearest_float b thousand }))
 
 abbrev saying : ℕ → ℕ → ℤ → Answer
-saying delay used offset = Says (measured_with delay used offset)
+saying delay used offset = Ok (measured_with delay used offset)
 
 -- what the rules give, ..
 abbrev pub given : List Met
@@ -99,9 +97,9 @@ due =
     measured (saying 10250 10250 (pos 250) ∷ [])
     ∷ measured (saying 10250 10250 (pos 251) ∷ [])
     ∷ measured (saying 10252 10252 (pos 251) ∷ [])
-    ∷ measured (Says Neg ∷ [])
+    ∷ measured (Ok Neg ∷ [])
     ∷ measured (saying 9999999 9999999 (pos 0) ∷ [])
-    ∷ measured (Says Long ∷ [])
+    ∷ measured (Ok Long ∷ [])
     ∷ measured (saying 10000 10000 (pos 0) ∷ saying 15000 10000 (pos 5000) ∷ saying 15000 15000 (pos 0) ∷ [])
     ∷ steered (pos 250 ∷ (pos 325 ∷ []))
     ∷ steered (pos 50000 ∷ [])
@@ -440,13 +438,13 @@ pub ticks-refused : (outside_of (minus 1) ≡ true)  -- rule 3.20
 ticks-refused = (refl, refl, refl, refl)
 
 -- the sample before has the reference of 5 s and the first y; then come the reference and the y of this one
-abbrev judged_after : ℤ → ℕ → ℤ → Outcome
+abbrev judged_after : ℤ → ℕ → ℤ → Judged
 judged_after before reference y = followed bench (pos 0) (record { reference = pos 5_000_000_000; y = before; valid = true }) (pos reference) y
 
-abbrev valid : ℕ → ℤ → Outcome
+abbrev valid : ℕ → ℤ → Judged
 valid reference y = Take (pos 0) (record { reference = pos reference; y = y; valid = true })
 
-abbrev invalid : ℕ → ℤ → Outcome
+abbrev invalid : ℕ → ℤ → Judged
 invalid reference y = Take (pos 0) (record { reference = pos reference; y = y; valid = false })
 
 pub pulses-judged : (judged_after (pos 0) 5_000_000_000 (pos 0) ≡ Wipe Back)  -- rule 9.4
@@ -481,15 +479,15 @@ holding some faulty = record { now = 5_000; chosen = record { some = some; sende
 abbrev heard : Stays → ℕ → Header → Bool → Ruling
 heard k now h field = first_of (of_exchange (message_due bare_settings k now h field))
 
-pub messages-barred : (heard (holding true false) 5_000 (headed 0 0 8 1) false ≡ Clear)  -- rule 3.9: an equal now
-    × (heard (holding true false) 4_999 (headed 0 0 8 1) false ≡ Barred Now)  -- rule 3.9
-    × (heard (holding true false) 5_000 (headed 0 0 8 2) false ≡ Barred NotMaster)  -- rule 3.16: another port of it
-    × (heard (holding true false) 5_000 (headed 0 0 9 1) false ≡ Barred NotMaster)  -- rule 3.16
-    × (heard (holding false false) 5_000 (headed 0 0 8 1) false ≡ Barred NotMaster)  -- rule 3.16: there is none
-    × (heard (holding true false) 5_000 (headed 0 1 9 1) false ≡ Barred Domain)  -- rule 3.57: 10 before 16, ..
-    × (heard (holding true true) 5_000 (headed 0 1 9 1) false ≡ Barred Faulty)  -- rule 3.57: .. 18 before it, ..
-    × (heard (holding true true) 4_999 (headed 0 1 9 1) false ≡ Barred Now)  -- rule 3.57: .. then 9, ..
-    × (heard (holding true true) 4_999 (headed 0 1 9 1) true ≡ Barred Field)  -- rule 3.57: .. and 5 first
+pub messages-barred : (heard (holding true false) 5_000 (headed 0 0 8 1) false ≡ Ok tt)  -- rule 3.9: an equal now
+    × (heard (holding true false) 4_999 (headed 0 0 8 1) false ≡ Err Now)  -- rule 3.9
+    × (heard (holding true false) 5_000 (headed 0 0 8 2) false ≡ Err NotMaster)  -- rule 3.16: another port of it
+    × (heard (holding true false) 5_000 (headed 0 0 9 1) false ≡ Err NotMaster)  -- rule 3.16
+    × (heard (holding false false) 5_000 (headed 0 0 8 1) false ≡ Err NotMaster)  -- rule 3.16: there is none
+    × (heard (holding true false) 5_000 (headed 0 1 9 1) false ≡ Err Domain)  -- rule 3.57: 10 before 16, ..
+    × (heard (holding true true) 5_000 (headed 0 1 9 1) false ≡ Err Faulty)  -- rule 3.57: .. 18 before it, ..
+    × (heard (holding true true) 4_999 (headed 0 1 9 1) false ≡ Err Now)  -- rule 3.57: .. then 9, ..
+    × (heard (holding true true) 4_999 (headed 0 1 9 1) true ≡ Err Field)  -- rule 3.57: .. and 5 first
 unfolding first_of is_master same_key_of
 messages-barred = (refl, refl, refl, refl, refl, refl, refl, refl, refl)
 
@@ -510,20 +508,20 @@ asking k now room = first_of (of_exchange (request_due k now room))
 abbrev sending-off : Stays → ℕ → Bool → Ruling
 sending-off k now field = first_of (of_exchange (own_due k now field))
 
-pub own-calls-barred : (asking (holding true false) 5_000 58 ≡ Clear)  -- rules 3.7 and 3.9: 14 octets and 44
-    × (asking (holding true false) 5_000 57 ≡ Barred Room)  -- rule 3.7
-    × (asking (holding true false) 5_000 13 ≡ Barred Room)  -- rule 3.7
-    × (asking (holding false false) 5_000 57 ≡ Barred NotMaster)  -- rule 3.60: 16 before 7, ..
-    × (asking (holding false true) 5_000 57 ≡ Barred Faulty)  -- rule 3.60: .. 18 before it, ..
-    × (asking (holding false true) 4_999 57 ≡ Barred Now)  -- rule 3.60: .. and 9 first
-    × (sending-off (holding true false) 5_000 false ≡ Clear)  -- rule 3.61
-    × (sending-off (holding false false) 5_000 false ≡ Barred NotMaster)  -- rule 3.61
-    × (sending-off (holding false true) 4_999 true ≡ Barred Field)  -- rule 3.61: 5 first
+pub own-calls-barred : (asking (holding true false) 5_000 58 ≡ Ok tt)  -- rules 3.7 and 3.9: 14 octets and 44
+    × (asking (holding true false) 5_000 57 ≡ Err Room)  -- rule 3.7
+    × (asking (holding true false) 5_000 13 ≡ Err Room)  -- rule 3.7
+    × (asking (holding false false) 5_000 57 ≡ Err NotMaster)  -- rule 3.60: 16 before 7, ..
+    × (asking (holding false true) 5_000 57 ≡ Err Faulty)  -- rule 3.60: .. 18 before it, ..
+    × (asking (holding false true) 4_999 57 ≡ Err Now)  -- rule 3.60: .. and 9 first
+    × (sending-off (holding true false) 5_000 false ≡ Ok tt)  -- rule 3.61
+    × (sending-off (holding false false) 5_000 false ≡ Err NotMaster)  -- rule 3.61
+    × (sending-off (holding false true) 4_999 true ≡ Err Field)  -- rule 3.61: 5 first
 unfolding first_of
 own-calls-barred = (refl, refl, refl, refl, refl, refl, refl, refl, refl)
 
-pub times-barred : (first_of (of_time (time_due 5_000 5_000)) ≡ Clear)  -- rule 3.62
-    × (first_of (of_time (time_due 5_000 4_999)) ≡ Barred Now)  -- rule 3.62
+pub times-barred : (first_of (of_time (time_due 5_000 5_000)) ≡ Ok tt)  -- rule 3.62
+    × (first_of (of_time (time_due 5_000 4_999)) ≡ Err Now)  -- rule 3.62
 unfolding first_of
 times-barred = (refl, refl)
 
@@ -532,18 +530,18 @@ abbrev announced : (now flags domain clock number steps : ℕ) → Ruling
 announced now flags domain clock number steps =
     first_of (grounds_with (record { header = headed flags domain clock number; stamp = at 0 0; offer = (announcing 1 6 33 20_061 128 8 steps 8 1).announce.offer }) 0 (record { clock = 7; number = 1 }) 5_000 now none_due)
 
-pub announces-barred : (announced 5_000 0 0 8 1 0 ≡ Clear)  -- rule 3.9
-    × (announced 4_999 0 0 8 1 0 ≡ Barred Now)  -- rule 3.9
-    × (announced 5_000 0 1 8 1 0 ≡ Barred Domain)  -- rule 3.10
-    × (announced 5_000 0 0 7 2 0 ≡ Barred Own)  -- rule 3.11: whatever its port
-    × (announced 5_000 256 0 8 1 0 ≡ Barred Alternate)  -- rules 2.3 and 3.12: the lowest bit of octet 6
-    × (announced 5_000 65_279 0 8 1 0 ≡ Clear)  -- rules 2.3 and 3.12: all other bits
-    × (announced 5_000 0 0 8 1 254 ≡ Clear)  -- rule 3.13
-    × (announced 5_000 0 0 8 1 255 ≡ Barred Steps)  -- rule 3.13
-    × (announced 5_000 256 0 8 1 255 ≡ Barred Alternate)  -- rule 3.56: 12 before 13, ..
-    × (announced 5_000 256 0 7 1 255 ≡ Barred Own)  -- rule 3.56: .. 11 before it, ..
-    × (announced 5_000 256 1 7 1 255 ≡ Barred Domain)  -- rule 3.56: .. then 10, ..
-    × (announced 4_999 256 1 7 1 255 ≡ Barred Now)  -- rule 3.56: .. and 9 first
+pub announces-barred : (announced 5_000 0 0 8 1 0 ≡ Ok tt)  -- rule 3.9
+    × (announced 4_999 0 0 8 1 0 ≡ Err Now)  -- rule 3.9
+    × (announced 5_000 0 1 8 1 0 ≡ Err Domain)  -- rule 3.10
+    × (announced 5_000 0 0 7 2 0 ≡ Err Own)  -- rule 3.11: whatever its port
+    × (announced 5_000 256 0 8 1 0 ≡ Err Alternate)  -- rules 2.3 and 3.12: the lowest bit of octet 6
+    × (announced 5_000 65_279 0 8 1 0 ≡ Ok tt)  -- rules 2.3 and 3.12: all other bits
+    × (announced 5_000 0 0 8 1 254 ≡ Ok tt)  -- rule 3.13
+    × (announced 5_000 0 0 8 1 255 ≡ Err Steps)  -- rule 3.13
+    × (announced 5_000 256 0 8 1 255 ≡ Err Alternate)  -- rule 3.56: 12 before 13, ..
+    × (announced 5_000 256 0 7 1 255 ≡ Err Own)  -- rule 3.56: .. 11 before it, ..
+    × (announced 5_000 256 1 7 1 255 ≡ Err Domain)  -- rule 3.56: .. then 10, ..
+    × (announced 4_999 256 1 7 1 255 ≡ Err Now)  -- rule 3.56: .. and 9 first
 unfolding first_of alternate_of
 announces-barred = (refl, refl, refl, refl, refl, refl, refl, refl, refl, refl, refl, refl)
 

@@ -1,4 +1,5 @@
 -- What is refused has its reason, and each reason its number; settings are taken as they were given, or refused.
+use Rattle.std.specs.Prelude.{Ok, Err}
 use mathlib.Core.Path.{◌≡◌, refl}
 use mathlib.Core.Logic.{◌⊎◌, inl, inr}
 use mathlib.Core.Bool.{Bool, true, false, cond, ◌&&◌}
@@ -10,19 +11,16 @@ use Rattle.numbers.specs.declared.refusal.Refusal.{Refusal}
 use Rattle.numbers.specs.declared.refusal.Refusal.TheVariants as refusals
 use Rattle.numbers.specs.Orders.{number_of}
 use Rattle.wire_layout.specs.declared.message.Message.{Message}
-use Rattle.wire_layout.specs.declared.message.Written.{Written}
-use Rattle.wire_layout.specs.declared.message.Written.TheVariants as writes
+use Rattle.wire_layout.specs.Writing.{Written}
+use Rattle.door_words.specs.Messages.{Handed}
 use Rattle.wire_layout.specs.Writing.{write_of, left_by}
 use Rattle.rules_settings.specs.declared.Given.{Given}
-use Rattle.rules_settings.specs.declared.Set.TheVariants.{Accepted, Refused as NotSet}
 use Rattle.rules_settings.specs.Ranges.{steering_fits, watch_fits, as_given, settings_of}
 use Rattle.rules_settings.proofs.Accepting.{settings-is}
 use Rattle.unit_core.specs.declared.calls.Answer.{Answer}
 use Rattle.unit_core.specs.declared.calls.Answer.TheVariants as answers
 use Rattle.unit_core.specs.Answers.{is_refusal}
 use Rattle.unit.proofs.Refusals.{never}
-use Rattle.door_words.specs.declared.messages.Handed.{Handed}
-use Rattle.door_words.specs.declared.messages.Handed.TheVariants.{Got, Barred}
 use Rattle.door_words.specs.Messages.{written_words, written_by, left_words}
 
 pub reason : (a : Answer) → is_refusal a ≡ true → (r : Refusal) × (a ≡ answers.Refused r)
@@ -57,10 +55,10 @@ in_table refusals.Correction = (omega arith, omega arith)
 in_table refusals.Tick = (omega arith, omega arith)
 in_table refusals.NotReady = (omega arith, omega arith)
 
-pub set-or-not : (g : Given) → (settings_of g ≡ Accepted (as_given g)) ⊎ (settings_of g ≡ NotSet refusals.Settings)
+pub set-or-not : (g : Given) → (settings_of g ≡ Ok (as_given g)) ⊎ (settings_of g ≡ Err refusals.Settings)
 set-or-not g = go (steering_fits g && watch_fits g) (settings-is g)
   where
-    go : (b : Bool) → settings_of g ≡ cond b (Accepted (as_given g)) (NotSet refusals.Settings) → (settings_of g ≡ Accepted (as_given g)) ⊎ (settings_of g ≡ NotSet refusals.Settings)
+    go : (b : Bool) → settings_of g ≡ cond b (Ok (as_given g)) (Err refusals.Settings) → (settings_of g ≡ Ok (as_given g)) ⊎ (settings_of g ≡ Err refusals.Settings)
     go true h = inl h
     go false h = inr h
 
@@ -73,9 +71,9 @@ module _ (suffix part : List ℕ) where
 
   by-writing : (m : Message) (x : Written)
       → ((written_words x).refused ≡ 0) ⊎ ((r : Refusal) × ((written_words x).refused ≡ number_of r) × (left_by x m suffix part ≡ part))
-  by-writing m (writes.Wrote n) = inl refl
-  by-writing m (writes.Barred r) = inr (r, refl, refl)
+  by-writing m (Ok n) = inl refl
+  by-writing m (Err r) = inr (r, refl, refl)
 
   pub written_or_not : (w : Handed) → Written? w
-  written_or_not (Got m) = by-writing m (write_of m suffix (length part))
-  written_or_not (Barred r) = inr (r, refl, refl)
+  written_or_not (Ok m) = by-writing m (write_of m suffix (length part))
+  written_or_not (Err r) = inr (r, refl, refl)

@@ -1,4 +1,5 @@
 -- The octets of a request: they have the sequenceId that the book gives, and are written whole.
+use Rattle.std.specs.Prelude.{Ok, Err}
 use mathlib.Core.Path.{◌≡◌, refl, sym, ap, subst, ◌∙◌}
 use mathlib.Core.Bool.{Bool, true, false, cond, ◌||◌}
 use mathlib.Core.List.{List, [], reverse}
@@ -6,14 +7,12 @@ use Prim.Native.Nat.{ℕ, ◌-◌}
 use lib.Dec.{ltb}
 use lib.ListN.{length}
 use Rattle.numbers.specs.declared.refusal.Refusal.TheVariants.{Room}
-use Rattle.numbers.specs.declared.ruling.Ruling.{Ruling}
-use Rattle.numbers.specs.declared.ruling.Ruling.TheVariants as rulings
+use Rattle.numbers.specs.Grounds.{Ruling}
 use Rattle.numbers.specs.Orders.{of_exchange}
 use Rattle.numbers.specs.Grounds.{first_of}
 use Rattle.numbers.specs.Stamps.{sound_of}
 use Rattle.numbers.proofs.Grounds.{or_else}
 use Rattle.wire_layout.specs.declared.message.Message.{Message}
-use Rattle.wire_layout.specs.declared.message.Written.TheVariants.{Wrote}
 use Rattle.wire_layout.specs.Suffix.{tlv_of, whole_within}
 use Rattle.wire_layout.specs.Writing.{fields_fit, write_of}
 use Rattle.wire_frames.specs.Frames.{request_of}
@@ -44,19 +43,19 @@ memory s list = subst (Tells s (past s (reverse (calls_in list)))) (sym (served-
 
 module _ (c : Unit) where
   ruled : (e : Effect) (v : Ruling) (m : Message) (f : List ℕ) → is_refusal (applied c c.table (unless v e)).answer ≡ false → frame_by v m f ≡ framed m f
-  ruled e rulings.Clear m f h = refl
-  ruled e (rulings.Barred r) m f h = absurd (never (sym h))
+  ruled e (Ok _) m f h = refl
+  ruled e (Err r) m f h = absurd (never (sym h))
 
-  narrow-refused : (e : Effect) (v : Ruling) → is_refusal (applied c c.table (unless (or_else v (rulings.Barred Room)) e)).answer ≡ false → ⊥
-  narrow-refused e rulings.Clear h = never (sym h)
-  narrow-refused e (rulings.Barred r) h = never (sym h)
+  narrow-refused : (e : Effect) (v : Ruling) → is_refusal (applied c c.table (unless (or_else v (Err Room)) e)).answer ≡ false → ⊥
+  narrow-refused e (Ok _) h = never (sym h)
+  narrow-refused e (Err r) h = never (sym h)
 
 roomy : (a b : Bool) → (a || b) ≡ false → b ≡ false
 roomy true b h = absurd (never (sym h))
 roomy false b h = h
 
 module _ (s : Settings) where
-  written-whole : (n room : ℕ) → ltb room 44 ≡ false → write_of (request_of s.domain s.own n) [] room ≡ Wrote 44
+  written-whole : (n room : ℕ) → ltb room 44 ≡ false → write_of (request_of s.domain s.own n) [] room ≡ Ok 44
   unfolding write_of first_of fields_fit sound_of whole_within tlv_of
   written-whole n room h = rw h
 
@@ -77,13 +76,13 @@ module _ (s : Settings) where
     abbrev others : Ruling
     others = first_of (of_exchange (own_due (stays_of c.core) at false))
 
-    pub whole : (n : ℕ) → is_refusal (served_of c (request frame at)).answer ≡ false → write_of (request_of s.domain s.own n) [] (length frame - 14) ≡ Wrote 44
+    pub whole : (n : ℕ) → is_refusal (served_of c (request frame at)).answer ≡ false → write_of (request_of s.domain s.own n) [] (length frame - 14) ≡ Ok 44
     unfolding served_of asked_of requests
     whole n h =
         go (narrow (length frame)) refl
         (subst (λ (v : Ruling). is_refusal (applied c c.table (unless v asks)).answer ≡ false) (room-bars (stays_of c.core) at (narrow (length frame)) others refl) h)
       where
-        go : (b : Bool) → narrow (length frame) ≡ b → is_refusal (applied c c.table (unless (or_else others (cond b (rulings.Barred Room) rulings.Clear)) asks)).answer ≡ false
-            → write_of (request_of s.domain s.own n) [] (length frame - 14) ≡ Wrote 44
+        go : (b : Bool) → narrow (length frame) ≡ b → is_refusal (applied c c.table (unless (or_else others (cond b (Err Room) (Ok tt))) asks)).answer ≡ false
+            → write_of (request_of s.domain s.own n) [] (length frame - 14) ≡ Ok 44
         go true e k = absurd (narrow-refused c asks others k)
         go false e k = written-whole n (length frame - 14) (roomy (ltb (length frame) 14) (ltb (length frame - 14) 44) e)

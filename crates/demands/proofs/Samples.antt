@@ -1,4 +1,5 @@
 -- The samples that the book has: an answer that says that it wiped leaves none, any other leaves all and adds one at most.
+use Rattle.std.specs.Prelude.{Ok, Err}
 use mathlib.Core.Path.{◌≡◌, refl, sym, ap, ◌∙◌}
 use mathlib.Core.Bool.{Bool, true, false, cond}
 use mathlib.Core.List.{List, [], ◌∷◌, ◌++◌, append-nil}
@@ -14,8 +15,7 @@ use Rattle.unit_core.specs.declared.calls.Call.TheVariants.{Receive, Request, Se
 use Rattle.unit_core.specs.declared.calls.Answer.{Answer}
 use Rattle.unit_core.specs.declared.calls.Answer.TheVariants as answers
 use Rattle.unit_core.specs.Answers.{is_refusal, wipes_of}
-use Rattle.unit_handing.specs.declared.Asked.{Asked}
-use Rattle.unit_handing.specs.declared.Asked.TheVariants.{Barred, Asks}
+use Rattle.unit_handing.specs.Handing.{Asked}
 use Rattle.unit_handing.specs.Handing.{Handed, asked_of}
 use Rattle.unit.proofs.Refusals.{never}
 use Rattle.story_lists.specs.Reading.{all, since}
@@ -76,12 +76,12 @@ module _ (s : Settings) (b : Book) where
   call-emptied call a h = rw (wipe-written a h, h)
 
   asked-grown : (a : Asked) → wipes_of (answer_to s b a) ≡ false → Longer (book_by s b a)
-  asked-grown (Barred r) h = nothing-new
-  asked-grown (Asks call) h = call-grown call (answer s b call) h
+  asked-grown (Err r) h = nothing-new
+  asked-grown (Ok call) h = call-grown call (answer s b call) h
 
   asked-emptied : (a : Asked) → wipes_of (answer_to s b a) ≡ true → taken_in s (book_by s b a) ≡ []
-  asked-emptied (Barred r) h = absurd (never h)
-  asked-emptied (Asks call) h = call-emptied call (answer s b call) h
+  asked-emptied (Err r) h = absurd (never h)
+  asked-emptied (Ok call) h = call-emptied call (answer s b call) h
 
 module _ (s : Settings) (calls : List (Handed ℕ)) (call : Handed ℕ) where
   pub grown : wipes_of (answer_by_history s calls call) ≡ false → (new : List Sample) × (length new ≤ 1) × (taken_in s (book s (call ∷ calls)) ≡ taken_in s (book s calls) ++ new)

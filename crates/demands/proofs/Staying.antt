@@ -1,11 +1,15 @@
 -- What a wipe leaves as it was: now, master, sequenceId and FAULTY, but for what the call itself sets.
+use Rattle.std.specs.Prelude.{Ok, Err}
 use mathlib.Core.Path.{◌≡◌, refl}
 use mathlib.Core.Bool.{Bool}
 use Prim.Native.Nat.{ℕ}
 use lib.IntN.{ℤ}
 use Rattle.numbers.specs.declared.stamp.Stamp.{Stamp}
-use Rattle.numbers.specs.declared.ruling.Ruling.{Ruling}
-use Rattle.numbers.specs.declared.ruling.Ruling.TheVariants.{Clear, Barred}
+use Rattle.numbers.specs.Grounds.{Ruling}
+use Rattle.rules_masters.specs.Admitting.{Answer as Admission}
+use Rattle.rules_masters.specs.declared.admission.Entry.TheVariants as admissions
+use Rattle.rules_exchange.specs.Events.{Answer as Told}
+use Rattle.rules_watch.specs.Rules.{Outcome, Drift}
 use Rattle.numbers.specs.Grounds.{first_of}
 use Rattle.numbers.specs.Orders.{of_exchange, of_time}
 use Rattle.wire_layout.specs.declared.message.Header.{Header}
@@ -13,20 +17,14 @@ use Rattle.wire_layout.specs.declared.message.Body.{Body}
 use Rattle.wire_layout.specs.declared.message.Body.TheVariants as bodies
 use Rattle.rules_masters.specs.declared.record.Announce.{Announce}
 use Rattle.rules_masters.specs.declared.table.Table.{Table}
-use Rattle.rules_masters.specs.declared.admission.Answer.{Answer as Admission}
-use Rattle.rules_masters.specs.declared.admission.Answer.TheVariants as admissions
 use Rattle.rules_masters.specs.declared.chosen.Decision.{Decision}
 use Rattle.rules_masters.specs.Holding.{chosen_at, same_master_of}
 use Rattle.rules_exchange.specs.declared.Exchange.{Exchange}
 use Rattle.rules_exchange.specs.Said.{wipes_of, faults_of, steers_of}
-use Rattle.rules_exchange.specs.declared.Answer.{Answer as Told}
-use Rattle.rules_exchange.specs.declared.Answer.TheVariants as tells
-use Rattle.rules_exchange.specs.declared.Answered.{Answered}
+use Rattle.rules_exchange.specs.Events.{Answered}
 use Rattle.rules_exchange.specs.Table.{Event, sync, requested, sent, follow_up, delay_resp, row_by}
 use Rattle.rules_exchange.specs.Events.{field_of, exchange_due, tells_of, stamp_taken}
-use Rattle.rules_watch.specs.declared.Drift.{Drift}
-use Rattle.rules_watch.specs.declared.judging.Outcome.{Outcome}
-use Rattle.rules_watch.specs.declared.judging.Outcome.TheVariants.{Refuse, Wipe, Take}
+use Rattle.rules_watch.specs.declared.judging.Judged.TheVariants.{Wipe, Take}
 use Rattle.rules_settings.specs.declared.Settings.{Settings}
 use Rattle.unit_core.specs.declared.calls.Call.{Call}
 use Rattle.unit_core.specs.declared.calls.Call.TheVariants.{Receive, Request, Sent, Time, Reset, Tick, Line, Show}
@@ -62,8 +60,8 @@ now_of Show before = before
 
 module _ (s : Settings) (k : Stays) (r : Progress) where
   stays-unless : (now : ℕ) (v : Ruling) (e : Effect) → Staying k now e → Staying k now (unless v e)
-  stays-unless now Clear e f = f
-  stays-unless now (Barred n) e f = tt
+  stays-unless now (Ok _) e f = f
+  stays-unless now (Err n) e f = tt
 
   -- ---- the choice
   stays-chooses : (t : Table) (now : ℕ) → Staying k now (chooses s k r t now)
@@ -71,9 +69,9 @@ module _ (s : Settings) (k : Stays) (r : Progress) where
   stays-chooses t now = by_test (λ (d : Decision). Staying k now (holds_by k r now (chosen_at t.records now s.announce) d)) (same_master_of k.chosen (chosen_at t.records now s.announce)) tt (refl, refl, refl, refl)
 
   stays-admits : (t : Table) (now : ℕ) (a : Admission) → Staying k now (admits s k r t now a)
-  stays-admits t now (admissions.Refused n) = tt
-  stays-admits t now (admissions.Renewed place) = stays-chooses t now
-  stays-admits t now (admissions.Entered place) = stays-chooses t now
+  stays-admits t now (Err n) = tt
+  stays-admits t now (Ok (admissions.Renewed place)) = stays-chooses t now
+  stays-admits t now (Ok (admissions.Entered place)) = stays-chooses t now
 
   stays-announce : (t : Table) (now : ℕ) (m : Announce) → Staying k now (announces s k r t now m)
   unfolding announces
@@ -86,8 +84,8 @@ module _ (s : Settings) (k : Stays) (r : Progress) where
   -- ---- the exchange
   stays-answer : (now : ℕ) (a : Told) (x : Exchange) → Staying k now (by_answer s (with_now now k) r a x)
   unfolding by_said
-  stays-answer now (tells.Refused n) x = tt
-  stays-answer now (tells.Says said) x =
+  stays-answer now (Err n) x = tt
+  stays-answer now (Ok said) x =
       by_test (Staying k now) (wipes_of said) (refl, refl, refl, refl) (by_test (Staying k now) (faults_of said) tt (by_test (Staying k now) (steers_of said) tt tt))
 
   stays-exchanged : (now : ℕ) (v : Ruling) (a : Answered) → Staying k now (unless v (exchanges s (with_now now k) r a))
@@ -107,8 +105,8 @@ module _ (s : Settings) (k : Stays) (r : Progress) where
   -- a request wipes nothing
   stays-asked : (now : ℕ) (v : Ruling) → Staying k now (unless v (exchanges s (with_next_sequence now k) r (tells_of r.exchange (requested k.sequence))))
   unfolding tells_of row_by stamp_taken by_said
-  stays-asked now Clear = tt
-  stays-asked now (Barred n) = tt
+  stays-asked now (Ok _) = tt
+  stays-asked now (Err n) = tt
 
   stays-request : (now room : ℕ) → Staying k now (requests s k r now room)
   unfolding requests
@@ -121,9 +119,9 @@ module _ (s : Settings) (k : Stays) (r : Progress) where
 
   -- ---- the watch
   stays-tick : (o : Outcome) → Staying k k.now (ticks k o)
-  stays-tick (Refuse n) = tt
-  stays-tick (Wipe p) = (refl, refl, refl, refl)
-  stays-tick (Take origin x) = tt
+  stays-tick (Err n) = tt
+  stays-tick (Ok (Wipe p)) = (refl, refl, refl, refl)
+  stays-tick (Ok (Take origin x)) = tt
 
   -- ---- every call
   stays-receive : (t : Table) (now : ℕ) (t2 : Stamp) (h : Header) (b : Body) → Staying k now (receives s k r t now t2 h b)

@@ -1,4 +1,5 @@
 -- No line is given before enough pulses have come after a wipe, whatever came before it.
+use Rattle.std.specs.Prelude.{Ok, Err}
 use mathlib.Core.Path.{◌≡◌, refl, sym, ap, subst, ◌∙◌}
 use mathlib.Core.Logic.{◌⊎◌, inl, inr}
 use mathlib.Core.Bool.{Bool, true, false, cond, ◌&&◌}
@@ -10,22 +11,19 @@ use lib.Dec.{leb}
 use lib.IntN.{pos}
 use lib.ListN.{length, length-drop, length-append}
 use Rattle.numbers.specs.declared.refusal.Refusal.TheVariants.{NotReady, Settings as Outside}
-use Rattle.numbers.specs.declared.ruling.Ruling.{Ruling}
-use Rattle.numbers.specs.declared.ruling.Ruling.TheVariants as rulings
+use Rattle.numbers.specs.Grounds.{Ruling}
+use Rattle.wire_layout.specs.Reading.{Read}
+use Rattle.rules_watch.specs.Rules.{Outcome, Drift}
+use Rattle.unit_handing.specs.Handing.{Asked}
 use Rattle.numbers.specs.declared.stamp.Stamp.{Stamp}
 use Rattle.numbers.specs.Grounds.{first_of}
 use Rattle.numbers.specs.Orders.{none_due, due_with, of_handing, of_time}
-use Rattle.wire_layout.specs.declared.message.Read.{Read}
-use Rattle.wire_layout.specs.declared.message.Read.TheVariants as reads
 use Rattle.wire_layout.specs.Reading.{read_of}
 use Rattle.rules_masters.specs.declared.table.Table.{Table as Masters}
 use Rattle.rules_watch.specs.declared.settings.WatchSettings.{WatchSettings}
 use Rattle.rules_watch.specs.declared.window.Sample.{Sample}
 use Rattle.rules_watch.specs.declared.Watch.{Watch}
-use Rattle.rules_watch.specs.declared.Drift.{Drift}
-use Rattle.rules_watch.specs.declared.Drift.TheVariants as drift
-use Rattle.rules_watch.specs.declared.judging.Outcome.{Outcome}
-use Rattle.rules_watch.specs.declared.judging.Outcome.TheVariants.{Refuse, Wipe, Take}
+use Rattle.rules_watch.specs.declared.judging.Judged.TheVariants.{Wipe, Take}
 use Rattle.rules_watch.specs.Settings.{size_of, least_of, wait_of}
 use Rattle.rules_watch.specs.Window.{last_n}
 use Rattle.rules_watch.specs.Totals.{points, positions, points_of, line_through}
@@ -40,8 +38,6 @@ use Rattle.unit_core.specs.declared.calls.Answer.TheVariants as answers
 use Rattle.unit_core.specs.Effects.{Stays, Effect, keeps, goes, takes, wipes, stays_of}
 use Rattle.unit_ticking.specs.Ticking.{ticks, line_by}
 use Rattle.unit.specs.declared.Unit.{Unit}
-use Rattle.unit_handing.specs.declared.Asked.{Asked}
-use Rattle.unit_handing.specs.declared.Asked.TheVariants.{Barred, Asks}
 use Rattle.unit.specs.Calls.{watch_by, applied, unit_effect, unit_table, step_of}
 use Rattle.unit_handing.specs.Handing.{Handed, receive, request, sent, time, reset, tick, line, show, unless_barred, is_delay_req, is_stray, message_asked, read_asked, time_asked, asked_of, stepped_by, served_of, served_all}
 use Rattle.unit.proofs.Fair.{Fair}
@@ -69,12 +65,12 @@ module _ (t : WatchSettings) (k : ℕ) (w : Watch) (f : Few t k w) where
   few-effect n (wipes a m) h = few-fresh t k
 
   few-outcome : (m : Stays) (o : Outcome) → Good t (since_by f.since o) (next_watch (taken_by t w o)) → Few t (suc k) (watch_by t w (ticks m o))
-  few-outcome m (Refuse n) g = few-more f (suc k) (omega arith)
-  few-outcome m (Wipe p) g = few-fresh t (suc k)
-  few-outcome m (Take origin x) g =
+  few-outcome m (Err n) g = few-more f (suc k) (omega arith)
+  few-outcome m (Ok (Wipe p)) g = few-fresh t (suc k)
+  few-outcome m (Ok (Take origin x)) g =
       record {
-        since = since_by f.since (Take origin x);
-        good = subst (λ (v : Watch). Good t (since_by f.since (Take origin x)) v) (next-taken t w origin x) g;
+        since = since_by f.since (Ok (Take origin x));
+        good = subst (λ (v : Watch). Good t (since_by f.since (Ok (Take origin x))) v) (next-taken t w origin x) g;
         few = omega (arith, f.few, length-append f.since.samples (x ∷ []));
       }
 
@@ -110,13 +106,13 @@ module _ (c : Unit) (k : ℕ) (f : Few c.core.settings.watch k c.watch) where
 
   -- what is barred before the unit is asked changes nothing
   few-ruled : (v : Ruling) (call : Call) → Few t k (step_of c call).unit.watch → Few t k (stepped_by c (unless_barred v call)).unit.watch
-  few-ruled rulings.Clear call g = g
-  few-ruled (rulings.Barred r) call g = f
+  few-ruled (Ok _) call g = g
+  few-ruled (Err r) call g = f
 
   few-read : (lent : ℕ) (r : Read) (now : ℕ) (arrival : Stamp) → Few t k (stepped_by c (read_asked lent r now arrival)).unit.watch
   unfolding message_asked
-  few-read lent (reads.Refused r) now arrival = f
-  few-read lent (reads.Got m part) now arrival = few-ruled (first_of (of_handing (is_delay_req m.body) (is_stray lent))) (Receive now arrival m) (few-call (Receive now arrival m))
+  few-read lent (Err r) now arrival = f
+  few-read lent (Ok (m, part)) now arrival = few-ruled (first_of (of_handing (is_delay_req m.body) (is_stray lent))) (Receive now arrival m) (few-call (Receive now arrival m))
 
   few-served : (call : Handed ℕ) → Few t (counting call k) (served_of c call).unit.watch
   unfolding served_of asked_of time_asked
@@ -137,8 +133,8 @@ settings-by c x (takes origin y) = refl
 settings-by c x (wipes a k) = refl
 
 settings-asked : (c : Unit) (a : Asked) → (stepped_by c a).unit.core.settings ≡ c.core.settings
-settings-asked c (Barred r) = refl
-settings-asked c (Asks call) = settings-by c (unit_table c call) (unit_effect c call)
+settings-asked c (Err r) = refl
+settings-asked c (Ok call) = settings-by c (unit_table c call) (unit_effect c call)
 
 pub settings-stay : (c : Unit) (call : Handed ℕ) → (served_of c call).unit.core.settings ≡ c.core.settings
 unfolding served_of
@@ -203,17 +199,17 @@ module _ (t : WatchSettings) (k : ℕ) (w : Watch) (f : Few t k w) where
       inr
       (lt-leb (least_of t) (length (points_of window)) (omega (arith, f.few, h, points-few (positions window) window, last-few (size_of t) f.since.samples)))
 
-  line-early : (k < wait_of t) ⊎ (k < least_of t) → watch_line t w ≡ drift.Refused NotReady
+  line-early : (k < wait_of t) ⊎ (k < least_of t) → watch_line t w ≡ Err NotReady
   line-early h =
       good-line f.good ∙ line-is t n window
-      ∙ ap (λ (b : Bool). cond b (drift.Line (line_through (points_of window))) (drift.Refused NotReady)) (not-due (leb (wait_of t) n) (leb (least_of t) (length (points_of window))) (early h))
+      ∙ ap (λ (b : Bool). cond b (Ok (line_through (points_of window))) (Err NotReady)) (not-due (leb (wait_of t) n) (leb (least_of t) (length (points_of window))) (early h))
 
 -- from a fresh watch, whatever the unit is beside it
 waits : (c : Unit) → c.watch ≡ fresh_watch → (l : List (Handed ℕ)) → Few c.core.settings.watch (pulses_in l) (served_all c l).watch
 waits c e l =
     few-more (few-all c.core.settings.watch c 0 refl (subst (λ (w : Watch). Few c.core.settings.watch 0 w) (sym e) (few-fresh c.core.settings.watch 0)) l) (pulses_in l) (omega arith)
 
-early-by : (d : Drift) (n : ℕ) → d ≡ drift.Refused NotReady → line_by d n ≡ answers.Refused NotReady
+early-by : (d : Drift) (n : ℕ) → d ≡ Err NotReady → line_by d n ≡ answers.Refused NotReady
 early-by d n h = rw h
 
 pub waiting : (c : Unit) → c.watch ≡ fresh_watch → (later : List (Handed ℕ)) → TooFew c.core.settings later
@@ -222,7 +218,7 @@ unfolding served_of asked_of
 waiting c h later k =
     let d = served_all c later in
     early-by (watch_line d.core.settings.watch d.watch) d.core.domain.wipes
-    (subst (λ (s : Settings). watch_line s.watch d.watch ≡ drift.Refused NotReady) (sym (settings-all c later))
+    (subst (λ (s : Settings). watch_line s.watch d.watch ≡ Err NotReady) (sym (settings-all c later))
     (line-early c.core.settings.watch (pulses_in later) d.watch (waits c h later) k))
 
 -- the pulses of a list for C

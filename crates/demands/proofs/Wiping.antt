@@ -1,4 +1,5 @@
 -- What an answer that says that it wiped leaves, and what any other leaves of the watch and of the count of wipes.
+use Rattle.std.specs.Prelude.{Ok, Err}
 use mathlib.Core.Path.{◌≡◌, refl, sym, subst, ◌∙◌}
 use mathlib.Core.Logic.{◌⊎◌, inl, inr}
 use mathlib.Core.Bool.{true, false}
@@ -7,12 +8,11 @@ use native.Mathlib.Omega.{arith}
 use lib.ListN.{length}
 use Rattle.numbers.specs.declared.stamp.Stamp.{Stamp}
 use Rattle.numbers.specs.declared.refusal.Refusal.TheVariants.{Settings as Outside}
-use Rattle.numbers.specs.declared.ruling.Ruling.{Ruling}
-use Rattle.numbers.specs.declared.ruling.Ruling.TheVariants as rulings
+use Rattle.numbers.specs.Grounds.{Ruling}
+use Rattle.wire_layout.specs.Reading.{Read}
+use Rattle.unit_handing.specs.Handing.{Asked as Asking}
 use Rattle.numbers.specs.Grounds.{first_of}
 use Rattle.numbers.specs.Orders.{none_due, due_with, of_handing, of_time}
-use Rattle.wire_layout.specs.declared.message.Read.{Read}
-use Rattle.wire_layout.specs.declared.message.Read.TheVariants as reads
 use Rattle.wire_layout.specs.Reading.{read_of}
 use Rattle.rules_masters.specs.declared.table.Table.{Table}
 use Rattle.rules_masters.specs.declared.chosen.Decision.TheVariants as decisions
@@ -30,8 +30,6 @@ use Rattle.unit_core.specs.Wipe.{one_more}
 use Rattle.unit_core.specs.Effects.{Effect, keeps, goes, takes, wipes, stays_of, progress_of}
 use Rattle.unit_core.specs.Answers.{is_refusal, wipes_of}
 use Rattle.unit.specs.declared.Unit.{Unit}
-use Rattle.unit_handing.specs.declared.Asked.{Asked as Asking}
-use Rattle.unit_handing.specs.declared.Asked.TheVariants.{Barred, Asks}
 use Rattle.unit.specs.declared.Stepped.{Stepped}
 use Rattle.unit.specs.Calls.{applied, unit_effect, unit_table, step_of}
 use Rattle.unit_handing.specs.Handing.{Handed, receive, request, sent, time, reset, tick, line, show, unless_barred, is_delay_req, is_stray, message_asked, read_asked, time_asked, asked_of, stepped_by, served_of}
@@ -65,12 +63,12 @@ module _ (c : Unit) (x : Table) where
 module _ (c : Unit) where
   pub wiped-by : (a : Asking) → wipes_of (stepped_by c a).answer ≡ true
       → Emptied c.core.settings (stepped_by c a).unit × ((stepped_by c a).unit.core.domain.wipes ≡ one_more c.core.domain.wipes)
-  wiped-by (Barred r) h = absurd (never h)
-  wiped-by (Asks call) h = after-wiped c (unit_table c call) (unit_effect c call) (sym (says-wiped c call) ∙ h)
+  wiped-by (Err r) h = absurd (never h)
+  wiped-by (Ok call) h = after-wiped c (unit_table c call) (unit_effect c call) (sym (says-wiped c call) ∙ h)
 
   pub kept_by : (a : Asking) → wipes_of (stepped_by c a).answer ≡ false → ((stepped_by c a).unit.core.domain.wipes ≡ c.core.domain.wipes) × Grown c.core.settings c.watch (stepped_by c a).unit.watch
-  kept_by (Barred r) h = (refl, inl refl)
-  kept_by (Asks call) h = after_kept c (unit_table c call) (unit_effect c call) (sym (says-wiped c call) ∙ h)
+  kept_by (Err r) h = (refl, inl refl)
+  kept_by (Ok call) h = after_kept c (unit_table c call) (unit_effect c call) (sym (says-wiped c call) ∙ h)
 
   -- what stays
   abbrev Spared : Answer → ℕ → Unit → Type 0
@@ -84,7 +82,7 @@ module _ (c : Unit) where
   spared-by x now (takes origin y) f h = absurd (never h)
   spared-by x now (wipes a k) f h = f
 
-  spares-call : (call : Call) → wipes_of (stepped_by c (Asks call)).answer ≡ true → Spared (stepped_by c (Asks call)).answer (now_of call c.core.now) (stepped_by c (Asks call)).unit
+  spares-call : (call : Call) → wipes_of (stepped_by c (Ok call)).answer ≡ true → Spared (stepped_by c (Ok call)).answer (now_of call c.core.now) (stepped_by c (Ok call)).unit
   spares-call call h =
       spared-by (unit_table c call) (now_of call c.core.now) (unit_effect c call)
       (staying c.core.settings (stays_of c.core) (progress_of c.core c.servo) c.table c.core.domain.wipes
@@ -93,17 +91,17 @@ module _ (c : Unit) where
 
   -- the now that the unit is asked with is the one that the call carries
   abbrev Carried : Asking → ℕ → Type 0
-  Carried (Barred r) now = ◌≡◌ {A = ℕ} 0 0
-  Carried (Asks call) now = now_of call c.core.now ≡ now
+  Carried (Err r) now = ◌≡◌ {A = ℕ} 0 0
+  Carried (Ok call) now = now_of call c.core.now ≡ now
 
   carried-by : (v : Ruling) (call : Call) → Carried (unless_barred v call) (now_of call c.core.now)
-  carried-by rulings.Clear call = refl
-  carried-by (rulings.Barred r) call = refl
+  carried-by (Ok _) call = refl
+  carried-by (Err r) call = refl
 
   carried-read : (lent : ℕ) (r : Read) (now : ℕ) (arrival : Stamp) → Carried (read_asked lent r now arrival) now
   unfolding message_asked
-  carried-read lent (reads.Refused r) now arrival = refl
-  carried-read lent (reads.Got m part) now arrival = carried-by (first_of (of_handing (is_delay_req m.body) (is_stray lent))) (calls.Receive now arrival m)
+  carried-read lent (Err r) now arrival = refl
+  carried-read lent (Ok (m, part)) now arrival = carried-by (first_of (of_handing (is_delay_req m.body) (is_stray lent))) (calls.Receive now arrival m)
 
   carried : (call : Handed ℕ) → Carried (asked_of call) (now_in call c.core.now)
   unfolding asked_of time_asked
@@ -117,8 +115,8 @@ module _ (c : Unit) where
   carried show = refl
 
   spares-asked : (a : Asking) (now : ℕ) → Carried a now → wipes_of (stepped_by c a).answer ≡ true → Spared (stepped_by c a).answer now (stepped_by c a).unit
-  spares-asked (Barred r) now e h = absurd (never h)
-  spares-asked (Asks call) now e h = subst (λ (n : ℕ). Spared (stepped_by c (Asks call)).answer n (stepped_by c (Asks call)).unit) e (spares-call call h)
+  spares-asked (Err r) now e h = absurd (never h)
+  spares-asked (Ok call) now e h = subst (λ (n : ℕ). Spared (stepped_by c (Ok call)).answer n (stepped_by c (Ok call)).unit) e (spares-call call h)
 
   pub spares : (call : Handed ℕ) → wipes_of (stepped_by c (asked_of call)).answer ≡ true → Spared (stepped_by c (asked_of call)).answer (now_in call c.core.now) (stepped_by c (asked_of call)).unit
   spares call h = spares-asked (asked_of call) (now_in call c.core.now) (carried call) h
@@ -128,13 +126,13 @@ module _ (c : Unit) where
   Faulty d = d.unit.core.domain.faulty ≡ true
 
   faulty-ruled : c.core.domain.faulty ≡ true → (v : Ruling) (call : Call) → Faulty (step_of c call) → Faulty (stepped_by c (unless_barred v call))
-  faulty-ruled f rulings.Clear call h = h
-  faulty-ruled f (rulings.Barred r) call h = f
+  faulty-ruled f (Ok _) call h = h
+  faulty-ruled f (Err r) call h = f
 
   faulty-read : c.core.domain.faulty ≡ true → (lent : ℕ) (r : Read) (now : ℕ) (arrival : Stamp) → Faulty (stepped_by c (read_asked lent r now arrival))
   unfolding message_asked
-  faulty-read f lent (reads.Refused r) now arrival = f
-  faulty-read f lent (reads.Got m part) now arrival =
+  faulty-read f lent (Err r) now arrival = f
+  faulty-read f lent (Ok (m, part)) now arrival =
       faulty-ruled f (first_of (of_handing (is_delay_req m.body) (is_stray lent))) (calls.Receive now arrival m) (faulty-lasts c f (calls.Receive now arrival m) (λ e. let z : ◌≡◌ {A = ℕ} 0 1 = cc in absurd (omega arith)))
 
   pub faulty-stays : (call : Handed ℕ) → c.core.domain.faulty ≡ true → ((served_of c call).unit.core.domain.faulty ≡ true) ⊎ (call ≡ reset)
@@ -156,8 +154,8 @@ module _ (c : Unit) where
   table-by x (wipes a k) = refl
 
   pub table-found : (a : Asking) → (stepped_by c a).unit.table ≡ table_found c a
-  table-found (Barred r) = refl
-  table-found (Asks call) = table-by (unit_table c call) (unit_effect c call)
+  table-found (Err r) = refl
+  table-found (Ok call) = table-by (unit_table c call) (unit_effect c call)
 
 -- ---- the same at the door, where an answer is numbers
 said-words : (said : Said) (output : Ppb) → says_wiped (answer_words (answers.Exchange said output)) ≡ wipes_of (answers.Exchange said output)

@@ -1,5 +1,5 @@
 -- What the demands read off an answer, a call, or a list of calls.
-use Rattle.std.specs.Prelude.{ℕ, suc, ◌<◌, ◌%◌, ◌^◌, ◌≡◌, ◌⊎◌, Bool, false, ◌&&◌, ◌||◌, List, [], ◌∷◌, reverse, eqb, leb, ℤ, pos, length}
+use Rattle.std.specs.Prelude.{ℕ, suc, ◌<◌, ◌%◌, ◌^◌, ◌≡◌, ◌⊎◌, Bool, false, ◌&&◌, ◌||◌, List, [], ◌∷◌, reverse, eqb, leb, ℤ, pos, length, Ok, Err}
 use Rattle.numbers.specs.Integers.{up}
 use Rattle.rules_masters.specs.declared.chosen.Chosen.{Chosen}
 use Rattle.rules_masters.specs.Holding.{master_of}
@@ -16,8 +16,7 @@ use Rattle.rules_settings.specs.Ranges.{as_given}
 use Rattle.unit_core.specs.declared.calls.Answer.{Answer}
 use Rattle.unit_core.specs.declared.calls.Answer.TheVariants.{Refused, Choice, Exchange, Watch, Wiped, Line, Shows}
 use Rattle.unit.specs.declared.Unit.{Unit}
-use Rattle.unit_handing.specs.declared.Asked.{Asked}
-use Rattle.unit_handing.specs.declared.Asked.TheVariants.{Barred, Asks}
+use Rattle.unit_handing.specs.Handing.{Asked}
 use Rattle.unit.specs.Calls.{fresh_unit, unit_table}
 use Rattle.unit_handing.specs.Handing.{Handed, receive, request, sent, time, reset, tick, line, show, served_all}
 use Rattle.story.specs.Book.{Book, samples, wipe_count}
@@ -77,8 +76,8 @@ now_in show before = before
 
 -- the table that a call leaves: only an Announce stores a place of it
 abbrev pub table_found : Unit → Asked → Table
-table_found c (Barred r) = c.table
-table_found c (Asks call) = unit_table c call
+table_found c (Err r) = c.table
+table_found c (Ok call) = unit_table c call
 
 -- what a wipe empties is that of a fresh unit with these settings
 pub record Emptied (s : Settings) (c : Unit) : Type 0 where

@@ -14,6 +14,7 @@ ghost use Rattle.door_core.specs.Ticking.{lined_of};
 ghost use Rattle.door_loop.specs.Lending.{receive_of, time_of, unit_asking, sent_of, reset_of, tick_of};
 
 use door_core::making::Made;
+use door_core::receiving::Received;
 use door_core::{making, receiving, showing, ticking, wiping};
 use door_measuring::asking;
 use door_records::masters::MasterWords;
@@ -73,23 +74,12 @@ pub fn sinezhab_receive(
         × (watch.new ≡ (receive_of unit.old servo.old table.old watch.old octets.old time arrival).watch)
         × (octets.new ≡ octets.old) }
 {
-    let k = receiving::receive(octets);
-    let barred = k.barred;
-    if barred {
-        *answer = receiving::refused(k);
-        return;
-    }
-    let m = k.message;
-    let announces = k.announces;
-    if announces {
-        door_leaving::announce(unit, servo, table, watch, m, time, answer);
-        return;
-    }
-    if table.len() != 5 {
-        *answer = door_choosing::untabled();
-        return;
-    }
-    door_leaving::measure(unit, servo, watch, m, time, arrival, answer);
+    *answer = match receiving::receive(octets) {
+        Err(refusal) => refusal.into(),
+        Ok(Received::Announce(m)) => door_leaving::announce(unit, servo, table, watch, m, time),
+        Ok(Received::Exchange(_)) if table.len() != 5 => door_choosing::untabled(),
+        Ok(Received::Exchange(m)) => door_leaving::measure(unit, servo, watch, m, time, arrival),
+    };
 }
 
 // The bare time call: the choice over the five records, which it leaves as they are.
@@ -107,20 +97,10 @@ pub fn sinezhab_time(
         × (table.new ≡ (time_of unit.old servo.old table.old watch.old time).table)
         × (watch.new ≡ (time_of unit.old servo.old table.old watch.old time).watch) }
 {
-    if table.len() != 5 {
-        *answer = door_choosing::untabled();
-        return;
-    }
-    let s = unit.settings;
-    let t = unit.state;
-    let e = door_choosing::span(s);
-    let c0 = door_choosing::candidate(table[0], time, e);
-    let c1 = door_choosing::candidate(table[1], time, e);
-    let c2 = door_choosing::candidate(table[2], time, e);
-    let c3 = door_choosing::candidate(table[3], time, e);
-    let c4 = door_choosing::candidate(table[4], time, e);
-    let q = door_choosing::pass(t, time, c0, c1, c2, c3, c4);
-    door_leaving::hold(unit, servo, watch, q, answer);
+    *answer = match door_choosing::pass(unit.settings, unit.state, table, time) {
+        Ok(held) => door_leaving::hold(unit, servo, watch, held),
+        Err(refusal) => refusal.into(),
+    };
 }
 
 // A request into a lent frame: it is touched only where the answer is that it is asked.
@@ -129,10 +109,7 @@ pub fn sinezhab_request(unit: &mut UnitWords, frame: &mut [u8], time: u64, answe
         × (unit.new ≡ unit_asking unit.old time (length frame.old))
         × (frame.new ≡ frame_after (core_of unit.old.settings unit.old.state unit.old.halves (delays_words fresh_exchange)) time frame.old) }
 {
-    let s = unit.settings;
-    let t = unit.state;
-    let h = unit.halves;
-    let q = asking::request(s, t, h, frame, time);
+    let q = asking::request(unit, frame, time);
     unit.state = q.state;
     unit.halves = q.halves;
     *answer = q.answer;
@@ -153,7 +130,7 @@ pub fn sinezhab_sent(
         × (servo.new ≡ (sent_of unit.old servo.old watch.old time sequence t3).servo)
         × (watch.new ≡ (sent_of unit.old servo.old watch.old time sequence t3).watch) }
 {
-    door_leaving::sent(unit, servo, watch, time, sequence, t3, answer);
+    *answer = door_leaving::sent(unit, servo, watch, time, sequence, t3);
 }
 
 // The operator's reset.
@@ -168,8 +145,7 @@ pub fn sinezhab_reset(
         × (servo.new ≡ (reset_of unit.old).servo)
         × (watch.new ≡ (reset_of unit.old).watch) }
 {
-    let t = unit.state;
-    unit.state = wiping::reset(t);
+    unit.state = wiping::reset(unit.state);
     door_leaving::freshen(unit, servo, watch);
     *answer = wiping::wiped();
 }
@@ -188,26 +164,20 @@ pub fn sinezhab_tick(
         × (servo.new ≡ (tick_of unit.old servo.old watch.old reference clock).servo)
         × (watch.new ≡ (tick_of unit.old servo.old watch.old reference clock).watch) }
 {
-    door_leaving::pulse(unit, servo, watch, reference, clock, answer);
+    *answer = door_leaving::pulse(unit, servo, watch, reference, clock);
 }
 
 // The drift line.
 pub fn sinezhab_line(unit: &UnitWords, watch: &mut Watch, answer: &mut AnswerWords)
-    ensures { (answer.new ≡ lined_of unit.now.settings unit.now.state watch.old.head watch.old.ys watch.old.marks)
+    ensures { (answer.new ≡ lined_of unit.now.settings unit.now.state watch.old)
         × (watch.new ≡ watch.old) }
 {
-    let u = *unit;
-    let s = u.settings;
-    let t = u.state;
-    let h = watch.head;
-    *answer = ticking::line(s, t, h, &mut watch.ys, &mut watch.marks);
+    *answer = ticking::line(unit.settings, unit.state, watch);
 }
 
 // What the unit shows.
 pub fn sinezhab_show(unit: &UnitWords, servo: &Servo, answer: &mut AnswerWords)
     ensures { answer.new ≡ shown_of unit.now servo.now }
 {
-    let u = *unit;
-    let v = *servo;
-    *answer = showing::show(u, v);
+    *answer = showing::show(*unit, *servo);
 }

@@ -1,4 +1,5 @@
 // The exports for C, all under one prefix: each is the door's call of the same name, and promises the same.
+// A crate of its own, since no crate can stand on a static library.
 #![tactic(auto)]
 
 ghost use Rattle.std.specs.Prelude.{◌≡◌, length};
@@ -173,7 +174,7 @@ pub extern "C" fn sinezhab_tick(
 // The drift line.
 #[unsafe(no_mangle)]
 pub extern "C" fn sinezhab_line(unit: &UnitWords, watch: &mut Watch, answer: &mut AnswerWords)
-    ensures { (answer.new ≡ lined_of unit.now.settings unit.now.state watch.old.head watch.old.ys watch.old.marks)
+    ensures { (answer.new ≡ lined_of unit.now.settings unit.now.state watch.old)
         × (watch.new ≡ watch.old) }
 {
     door::sinezhab_line(unit, watch, answer);

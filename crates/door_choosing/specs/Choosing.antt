@@ -1,23 +1,23 @@
 -- What an Announce and the bare time call leave in the records.
-use Rattle.std.specs.Prelude.{ℕ, Bool, true, false, cond, eqb}
+use Rattle.std.specs.Prelude.{ℕ, true, false, cond, eqb, Ok, Err, Result, Option, List, map, length, get_or, set}
+use Rattle.numbers.specs.declared.refusal.Refusal.{Refusal}
 use Rattle.numbers.specs.declared.refusal.Refusal.TheVariants.{Settings as Outside}
-use Rattle.numbers.specs.declared.ruling.Ruling.{Ruling}
-use Rattle.numbers.specs.declared.ruling.Ruling.TheVariants.{Clear, Barred}
-use Rattle.numbers.specs.Grounds.{first_of}
+use Rattle.numbers.specs.Grounds.{Ruling, first_of}
 use Rattle.numbers.specs.Orders.{number_of, of_time}
 use Rattle.wire_layout.specs.declared.message.Message.{Message}
 use Rattle.wire_layout.specs.Kinds.{stamp_in}
+use Rattle.rules_masters.specs.declared.admission.Entry.{Entry}
+use Rattle.rules_masters.specs.declared.admission.Entry.TheVariants.{Renewed, Entered}
 use Rattle.rules_masters.specs.declared.candidate.Candidate.{Candidate}
 use Rattle.rules_masters.specs.declared.record.Announce.{Announce}
 use Rattle.rules_masters.specs.declared.record.Record.{Record}
 use Rattle.rules_masters.specs.declared.chosen.Chosen.{Chosen}
 use Rattle.rules_masters.specs.declared.chosen.Decision.{Decision}
 use Rattle.rules_masters.specs.declared.standing.Standing.{Standing}
-use Rattle.rules_masters.specs.declared.standing.Seat.{Seat}
-use Rattle.rules_masters.specs.Records.{entered_of, renewed_of}
+use Rattle.rules_masters.specs.Records.{interval_of, fresh_record, entered_of, renewed_of}
 use Rattle.rules_masters.specs.Holding.{decision_of, wipes_of}
-use Rattle.rules_masters.specs.Admitting.{standing_of}
-use Rattle.rules_masters.specs.Inner.{barred_of, seat_of, candidate_of, best_of}
+use Rattle.rules_masters.specs.Admitting.{Answer, standing_of}
+use Rattle.rules_masters.specs.Inner.{barred_of, place_in, seat_unless, seat_of, candidate_of, best_of}
 use Rattle.unit_choosing.specs.Choosing.{time_due}
 use Rattle.door_records.specs.declared.unit.SettingsWords.{SettingsWords}
 use Rattle.door_records.specs.declared.unit.StateWords.{StateWords}
@@ -29,7 +29,6 @@ use Rattle.door_words.specs.Messages.{offer_in}
 use Rattle.door_words.specs.Answers.{choosing, refusing}
 use Rattle.door_core.specs.Wiping.{wiped_state}
 use Rattle.door_choosing.specs.declared.Held.{Held}
-use Rattle.door_choosing.specs.declared.Looked.{Looked}
 use Rattle.door_choosing.specs.declared.Seated.{Seated}
 
 -- 8, of a lent table that is not of five
@@ -40,30 +39,32 @@ untabled_of = refusing (number_of Outside)
 abbrev pub announce_in : Message → Announce
 announce_in m = record { header = m.header; stamp = stamp_in m.body; offer = offer_in m.body }
 
--- refused, by its number, or a place of the table
-abbrev pub numbered_by : Ruling → (at : ℕ) (known : Bool) → Seated
-numbered_by (Barred n) at known = record { barred = true; number = number_of n; at = 0; known = false }
-numbered_by Clear at known = record { barred = false; number = 0; at = at; known = known }
+-- what an Announce and the choice ask of each record
+abbrev pub standings_of : List MasterWords → Announce → (now span : ℕ) → List Standing
+standings_of l m now span = map (λ r. standing_of m.header.source m.header.sequence now span (record_in r)) l
+
+abbrev pub candidates_of : List MasterWords → (now span : ℕ) → List (Option Candidate)
+candidates_of l now span = map (λ r. candidate_of now span (record_in r)) l
 
 -- refused without a look into the table; or by what is in it, or a place of it
-abbrev pub seat_unless : Ruling → Seat → Seated
-seat_unless (Barred n) p = numbered_by (Barred n) 0 false
-seat_unless Clear p = numbered_by p.ruling p.at p.known
+abbrev pub seat_by : SettingsWords → StateWords → List MasterWords → Announce → ℕ → Answer
+seat_by s t l m now = seat_unless (barred_of m s.domain (own_in s) t.now now) (seat_of (standings_of l m now (interval_of s.announce)))
 
-abbrev pub seat_by : SettingsWords → StateWords → Message → ℕ → (a b c d e : Standing) → Seated
-seat_by s t m now a b c d e = seat_unless (barred_of (announce_in m) s.domain (own_in s) t.now now) (seat_of a b c d e)
+-- the record that is to be stored at the place
+abbrev pub fresh_master : MasterWords
+fresh_master = master_words fresh_record
 
--- the record that is stored there
-abbrev pub placed_of : MasterWords → Message → (known : Bool) → ℕ → MasterWords
-placed_of r m known now = cond known (master_words (renewed_of (record_in r) (announce_in m) now)) (master_words (entered_of (announce_in m) now))
+abbrev pub placed_of : List MasterWords → Announce → ℕ → Entry → Record
+placed_of l m now (Renewed at) = renewed_of (record_in (get_or l at fresh_master)) m now
+placed_of l m now (Entered at) = entered_of m now
 
--- what is asked of one record
-abbrev pub looked_of : Message → (now span : ℕ) → Record → Looked
-looked_of m now span r = record { standing = standing_of m.header.source m.header.sequence now span r; candidate = candidate_of now span r }
+-- the table, once it is stored
+abbrev pub stored_in : List MasterWords → Announce → ℕ → Entry → List MasterWords
+stored_in l m now e = set l (place_in e) (master_words (placed_of l m now e))
 
--- the best of five, where at this place the new one stands
-abbrev pub best_with : (at : ℕ) (new a b c d e : Candidate) → Chosen
-best_with at new a b c d e = best_of (cond (eqb at 0) new a) (cond (eqb at 1) new b) (cond (eqb at 2) new c) (cond (eqb at 3) new d) (cond (eqb at 4) new e)
+-- the choice over a table
+abbrev pub best_in : SettingsWords → List MasterWords → ℕ → Chosen
+best_in s l now = best_of (candidates_of l now (interval_of s.announce))
 
 -- this master, or none, is chosen
 abbrev pub chosen_state : StateWords → ℕ → Chosen → StateWords
@@ -77,10 +78,22 @@ held_by t now c d =
 unfoldable pub held_of : StateWords → ℕ → Chosen → Held
 held_of t now c = held_by t now c (decision_of (chosen_in t.chosen) c)
 
--- the bare time call: a refusal leaves the state as it was
-abbrev pub held_unless : StateWords → Ruling → Held → Held
-held_unless t (Barred n) q = record { answer = refusing (number_of n); state = t; wipes = false }
-held_unless t Clear q = q
+-- an Announce: the place, the record that is stored there, and what is then chosen
+abbrev pub seated_of : SettingsWords → StateWords → List MasterWords → Announce → ℕ → Answer → Result Seated Refusal
+seated_of s t l m now (Err n) = Err n
+seated_of s t l m now (Ok e) =
+    Ok (record { at = place_in e; stored = master_words (placed_of l m now e); held = held_of t now (best_in s (stored_in l m now e) now) })
 
-abbrev pub timed_of : StateWords → ℕ → Chosen → Held
-timed_of t now c = held_unless t (first_of (of_time (time_due t.now now))) (held_of t now c)
+abbrev pub announced_of : SettingsWords → StateWords → List MasterWords → Message → ℕ → Result Seated Refusal
+announced_of s t l m now = cond (eqb (length l) 5) (seated_of s t l (announce_in m) now (seat_by s t l (announce_in m) now)) (Err Outside)
+
+-- the bare time call
+abbrev pub held_unless : Ruling → Held → Result Held Refusal
+held_unless (Err n) q = Err n
+held_unless (Ok _) q = Ok q
+
+abbrev pub timed_of : SettingsWords → StateWords → List MasterWords → ℕ → Result Held Refusal
+timed_of s t l now = held_unless (first_of (of_time (time_due t.now now))) (held_of t now (best_in s l now))
+
+abbrev pub passed_of : SettingsWords → StateWords → List MasterWords → ℕ → Result Held Refusal
+passed_of s t l now = cond (eqb (length l) 5) (timed_of s t l now) (Err Outside)

@@ -1,12 +1,11 @@
-// The steps of the door that choose, for an Announce and the bare time call: what is asked of each of the five records, the one stored, the choice.
+// The steps of the door that choose, for an Announce and the bare time call: the one record to be stored, and what is chosen over the five.
 #![tactic(auto)]
 
-ghost use Rattle.std.specs.Prelude.{◌≡◌, cond, eqb};
-ghost use Rattle.rules_masters.specs.Records.{interval_of};
-ghost use Rattle.rules_masters.specs.Inner.{candidate_of, best_of};
-ghost use Rattle.door_words.specs.Answers.{refusing};
+ghost use Rattle.std.specs.Prelude.{◌≡◌, ◌<◌, IfOk, map, length};
+ghost use Rattle.rules_masters.specs.Admitting.{standing_of};
+ghost use Rattle.rules_masters.specs.Inner.{place_in, candidate_of};
 ghost use Rattle.door_records.specs.Masters.{record_in};
-ghost use Rattle.door_choosing.specs.Choosing.{announce_in, looked_of, numbered_by, seat_by, placed_of, best_with, held_of, timed_of, untabled_of};
+ghost use Rattle.door_choosing.specs.Choosing.{announce_in, placed_of, held_of, announced_of, passed_of, untabled_of};
 
 use door_core::wiping::wipe;
 use door_records::masters::MasterWords;
@@ -14,34 +13,18 @@ use door_records::unit::{ChosenWords, SettingsWords, StateWords};
 use door_words::answers::AnswerWords;
 use door_words::messages::offer_in;
 use numbers::refusal::Refusal;
-use numbers::ruling::Ruling;
-use rules_masters::admission::barred;
+use rules_masters::admission::{Entry, barred};
 use rules_masters::candidate::Candidate;
 use rules_masters::choice::best;
 use rules_masters::chosen::Chosen;
-use rules_masters::record::{Announce, Record, interval};
+use rules_masters::moment::Moment;
+use rules_masters::record::{Announce, Record};
 use rules_masters::seats::seat;
-use rules_masters::standing::{Seat, Standing};
+use rules_masters::standing::Standing;
 use unit_choosing::time_barred;
-use wire_layout::message::Message;
+use wire_layout::message::{Header, Message};
 
-// What an Announce asks of one record.
-#[derive(Clone, Copy)]
-pub struct Looked {
-    pub standing: Standing,
-    pub candidate: Candidate,
-}
-
-// The place for an Announce; or, where it is barred, the number of its refusal.
-#[derive(Clone, Copy)]
-pub struct Seated {
-    pub barred: bool,
-    pub number: u8,
-    pub at: usize, // 0 to 4 in any case
-    pub known: bool, // the place is the sender's own
-}
-
-// What the choice leaves.
+// What the choice leaves. The state is there whether it wipes or not: what else a wipe empties is the caller's.
 #[derive(Clone, Copy)]
 pub struct Held {
     pub answer: AnswerWords,
@@ -49,115 +32,82 @@ pub struct Held {
     pub wipes: bool,
 }
 
+// What an Announce leaves: the record to be stored at this place of the table, and what is chosen then.
+#[derive(Clone, Copy)]
+pub struct Seated {
+    pub at: usize,
+    pub stored: MasterWords,
+    pub held: Held,
+}
+
 // The answer where the table is not of five.
 pub fn untabled() -> AnswerWords
     ensures { result ≡ untabled_of }
 {
-    AnswerWords::refusing(Refusal::Settings.number())
-}
-
-// The announce interval in ms.
-pub fn span(s: SettingsWords) -> u32
-    ensures { result ≡ interval_of s.announce }
-{
-    interval(s.announce)
+    Refusal::Settings.into()
 }
 
 fn announce_in(m: Message) -> Announce
     ensures { result ≡ announce_in m }
 {
-    let header = m.header;
-    let body = m.body;
     Announce {
-        header,
-        stamp: body.stamp(),
-        offer: offer_in(body),
+        header: m.header,
+        stamp: m.body.stamp(),
+        offer: offer_in(m.body),
     }
 }
 
-// What an Announce asks of one record: for its place, and for the choice. Each record is read once.
-pub fn look(r: MasterWords, m: Message, now: u64, span: u32) -> Looked
-    ensures { result ≡ looked_of m now span (record_in r) }
+// What an Announce asks of one record, ..
+fn stands(r: MasterWords, heard: &Header, at: Moment) -> Standing
+    ensures { result ≡ standing_of heard.now.source heard.now.sequence at.now at.interval (record_in r) }
 {
-    let record = r.told();
-    let header = m.header;
-    let source = header.source;
-    Looked {
-        standing: record.stands(source, header.sequence, now, span),
-        candidate: record.candidate(now, span),
-    }
+    Record::from(r).stands(heard, at)
 }
 
-// What the bare time call asks of it.
-pub fn candidate(r: MasterWords, now: u64, span: u32) -> Candidate
-    ensures { result ≡ candidate_of now span (record_in r) }
+// Record by record and not by the unit's Table: of the lent one no copy is made. One by one and not by `map`, which copies each record: the bare time
+// call then takes 1,668 instructions, and 800 are its bar (docs/COST.md).
+fn standings(table: &[MasterWords; 5], heard: &Header, at: Moment) -> [Standing; 5]
+    ensures { result ≡ map (λ r. standing_of heard.now.source heard.now.sequence at.now at.interval (record_in r)) table.now }
 {
-    let record = r.told();
-    record.candidate(now, span)
+    let [a, b, c, d, e] = table;
+    [
+        stands(*a, heard, at),
+        stands(*b, heard, at),
+        stands(*c, heard, at),
+        stands(*d, heard, at),
+        stands(*e, heard, at),
+    ]
 }
 
-// A refusal is answered by its number.
-fn numbered(p: Seat) -> Seated
-    ensures { result ≡ numbered_by p.ruling p.at p.known }
+// .. and what the choice asks of it.
+fn candidate(r: MasterWords, at: Moment) -> Option<Candidate>
+    ensures { result ≡ candidate_of at.now at.interval (record_in r) }
 {
-    let ruling = p.ruling;
-    match ruling {
-        Ruling::Barred(number) => Seated {
-            barred: true,
-            number: number.number(),
-            at: 0,
-            known: false,
-        },
-        Ruling::Clear => Seated {
-            barred: false,
-            number: 0,
-            at: p.at,
-            known: p.known,
-        },
-    }
+    Record::from(r).candidate(at)
 }
 
-// The refusals that need no table, and then the place among the five.
-pub fn seat_in(
-    s: SettingsWords,
-    t: StateWords,
-    m: Message,
-    now: u64,
-    a: Looked,
-    b: Looked,
-    c: Looked,
-    d: Looked,
-    e: Looked,
-) -> Seated
-    ensures { result ≡ seat_by s t m now a.standing b.standing c.standing d.standing e.standing }
+fn candidates(table: &[MasterWords; 5], at: Moment) -> [Option<Candidate>; 5]
+    ensures { result ≡ map (λ r. candidate_of at.now at.interval (record_in r)) table.now }
 {
-    match barred(announce_in(m), s.domain, s.own(), t.now, now) {
-        Ruling::Barred(number) => Seated {
-            barred: true,
-            number: number.number(),
-            at: 0,
-            known: false,
-        },
-        Ruling::Clear => {
-            let a = a.standing;
-            let b = b.standing;
-            let c = c.standing;
-            let d = d.standing;
-            let e = e.standing;
-            numbered(seat(a, b, c, d, e))
-        }
-    }
+    let [a, b, c, d, e] = table;
+    [
+        candidate(*a, at),
+        candidate(*b, at),
+        candidate(*c, at),
+        candidate(*d, at),
+        candidate(*e, at),
+    ]
 }
 
 // The record of the place: renewed where it is the sender's, else a new one.
-pub fn place(r: MasterWords, m: Message, p: Seated, now: u64) -> MasterWords
-    ensures { result ≡ placed_of r m p.known now }
+fn placed(table: &[MasterWords; 5], entry: Entry, heard: Announce, now: u64) -> Record
+    requires { place_in entry < 5 }
+    ensures { result ≡ placed_of table.now heard now entry }
 {
-    if p.known {
-        let record = r.told();
-        return MasterWords::of(record.renewed(announce_in(m), now));
+    match entry {
+        Entry::Renewed(place) => Record::from(table[place]).renewed(heard, now),
+        Entry::Entered(_) => Record::entered(heard, now),
     }
-    MasterWords::of(Record::entered(announce_in(m), now))
 }
 
 // This master, or none, is chosen. A new or lost one wipes.
@@ -165,83 +115,56 @@ pub fn place(r: MasterWords, m: Message, p: Seated, now: u64) -> MasterWords
 fn hold(mut t: StateWords, now: u64, chosen: Chosen) -> Held
     ensures { result ≡ held_of t now chosen }
 {
-    let before = t.chosen;
-    let held = before.told();
-    let decision = held.decide(chosen);
-    let answer = AnswerWords::choosing(decision);
+    let decision = Chosen::from(t.chosen).decide(chosen);
+    let answer = AnswerWords::from(decision);
     t.now = now;
-    t.chosen = ChosenWords::of(chosen);
-    if decision.wipes() {
-        return Held {
-            answer,
-            state: wipe(t),
-            wipes: true,
-        };
-    }
+    t.chosen = ChosenWords::from(chosen);
+    let wipes = decision.wipes();
     Held {
         answer,
-        state: t,
-        wipes: false,
+        state: if wipes { wipe(t) } else { t },
+        wipes,
     }
 }
 
-// At the place that was stored the new one, at any other the one that was read.
-fn pick(at: usize, place: usize, new: Candidate, old: Candidate) -> Candidate
-    ensures { result ≡ cond (eqb at place) new old }
-{
-    if at == place { new } else { old }
-}
-
-// The choice over the five, after the record w was stored at its place.
-pub fn choose(
+// An Announce, told by its message: refused, for a table that is not of five too, or seated.
+pub fn announce(
+    s: SettingsWords,
     t: StateWords,
+    table: &[MasterWords],
+    m: Message,
     now: u64,
-    span: u32,
-    p: Seated,
-    w: MasterWords,
-    a: Looked,
-    b: Looked,
-    c: Looked,
-    d: Looked,
-    e: Looked,
-) -> Held
-    ensures { result ≡ held_of t now (best_with p.at (candidate_of now span (record_in w)) a.candidate b.candidate c.candidate d.candidate e.candidate) }
+) -> Result<Seated, Refusal>
+    ensures value { result ≡ announced_of s t table.now m now }
+    ensures within { IfOk result (λ q. q.at < length table.now) }
 {
-    let new = candidate(w, now, span);
-    let at = p.at;
-    let a = pick(at, 0, new, a.candidate);
-    let b = pick(at, 1, new, b.candidate);
-    let c = pick(at, 2, new, c.candidate);
-    let d = pick(at, 3, new, d.candidate);
-    let e = pick(at, 4, new, e.candidate);
-    hold(t, now, best(a, b, c, d, e))
+    let five: &[MasterWords; 5] = table.as_array().ok_or(Refusal::Settings)?;
+    let heard = announce_in(m);
+    barred(heard, s.domain, s.own(), t.now, now)?;
+    let at = Moment::of(now, s.announce);
+    let entry = seat(&standings(five, &m.header, at))?;
+    let record = placed(five, entry, heard, now);
+    let mut candidates = candidates(five, at);
+    let place = entry.place();
+    candidates[place] = record.candidate(at);
+    Ok(Seated {
+        at: place,
+        stored: record.into(),
+        held: hold(t, now, best(&candidates)),
+    })
 }
 
-// The answer where the table refuses.
-pub fn unseated(p: Seated) -> AnswerWords
-    ensures { result ≡ refusing p.number }
-{
-    AnswerWords::refusing(p.number)
-}
-
-// The bare time call. A refusal leaves the state as it was.
+// The bare time call: refused, for a table that is not of five too, or chosen anew.
 pub fn pass(
+    s: SettingsWords,
     t: StateWords,
+    table: &[MasterWords],
     now: u64,
-    a: Candidate,
-    b: Candidate,
-    c: Candidate,
-    d: Candidate,
-    e: Candidate,
-) -> Held
-    ensures { result ≡ timed_of t now (best_of a b c d e) }
+) -> Result<Held, Refusal>
+    ensures { result ≡ passed_of s t table.now now }
 {
-    match time_barred(t.now, now) {
-        Ruling::Barred(number) => Held {
-            answer: AnswerWords::refusing(number.number()),
-            state: t,
-            wipes: false,
-        },
-        Ruling::Clear => hold(t, now, best(a, b, c, d, e)),
-    }
+    let five: &[MasterWords; 5] = table.as_array().ok_or(Refusal::Settings)?;
+    time_barred(t.now, now)?;
+    let at = Moment::of(now, s.announce);
+    Ok(hold(t, now, best(&candidates(five, at))))
 }

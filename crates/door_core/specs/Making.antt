@@ -1,9 +1,8 @@
 -- The making of a unit.
-use Rattle.std.specs.Prelude.{ℕ}
+use Rattle.std.specs.Prelude.{ℕ, Ok, Err}
 use Rattle.numbers.specs.Orders.{number_of}
 use Rattle.rules_settings.specs.declared.Given.{Given}
-use Rattle.rules_settings.specs.declared.Set.{Set}
-use Rattle.rules_settings.specs.declared.Set.TheVariants as sets
+use Rattle.rules_settings.specs.Ranges.{Set}
 use Rattle.rules_settings.specs.declared.Settings.{Settings}
 use Rattle.rules_settings.specs.Ranges.{settings_of, bare_settings}
 use Rattle.unit_core.specs.Wipe.{fresh_core, restored_servo}
@@ -15,8 +14,8 @@ made_with n s = record { refused = n; unit = unit_words (fresh_core s); servo = 
 
 -- settings that are refused make a unit of zeros
 abbrev pub made_by : Set → Made
-made_by (sets.Accepted s) = made_with 0 s
-made_by (sets.Refused r) = made_with (number_of r) bare_settings
+made_by (Ok s) = made_with 0 s
+made_by (Err r) = made_with (number_of r) bare_settings
 
 abbrev pub made_of : Given → Made
 made_of g = made_by (settings_of g)

@@ -4,14 +4,14 @@ ghost use Rattle.door_core.specs.Making.{made_with, made_of};
 
 use door_records::unit::UnitWords;
 use rules_servo::Servo;
-use rules_settings::{Given, Set, Settings};
+use rules_settings::{Given, Settings};
 use unit_core::Core;
 use unit_core::run::Fresh;
 
 #[repr(C)]
 #[derive(Clone, Copy)]
 pub struct Made {
-    pub refused: u64, // 0, or SETTINGS
+    pub refused: u64, // 0, or SETTINGS: a number, since no enum crosses to C
     pub unit: UnitWords,
     pub servo: Servo,
 }
@@ -19,12 +19,10 @@ pub struct Made {
 fn make_with(refused: u64, settings: Settings) -> Made
     ensures { result ≡ made_with refused settings }
 {
-    let fresh = Fresh::with(settings.kp, settings.ki);
-    let servo = fresh.servo;
     Made {
         refused,
-        unit: UnitWords::of(Core::fresh(settings)),
-        servo,
+        unit: Core::fresh(settings).into(),
+        servo: Fresh::with(settings.kp, settings.ki).servo,
     }
 }
 
@@ -32,7 +30,7 @@ pub fn make(given: Given) -> Made
     ensures { result ≡ made_of given }
 {
     match given.settings() {
-        Set::Accepted(settings) => make_with(0, settings),
-        Set::Refused(number) => make_with(number.number() as u64, Settings::bare()),
+        Ok(settings) => make_with(0, settings),
+        Err(refusal) => make_with(refusal.number().into(), Settings::bare()),
     }
 }

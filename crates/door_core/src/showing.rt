@@ -5,10 +5,10 @@ ghost use Rattle.door_core.specs.Showing.{shown_of};
 use door_records::unit::UnitWords;
 use door_words::answers::AnswerWords;
 use rules_servo::Servo;
+use unit_core::Core;
 
 pub fn show(u: UnitWords, v: Servo) -> AnswerWords
     ensures { result ≡ shown_of u v }
 {
-    let core = u.told();
-    AnswerWords::showing(core.shows(v))
+    Core::from(u).shows(v).into()
 }

@@ -1,15 +1,14 @@
 // What a wipe puts into the records, for every call that can wipe: the unit's fresh run and servo, as numbers. The watch's columns are emptied where
-// they lie: rules_watch::empty.
+// they lie: Watch::empty.
 ghost use Rattle.std.specs.Prelude.{◌≡◌};
 ghost use Rattle.door_words.specs.Answers.{plain};
 ghost use Rattle.door_core.specs.Wiping.{wiped_state, reset_state, emptied_of};
 
 use door_records::exchange::{DelaysWords, HalvesWords};
-use door_records::flags::flag;
 use door_records::unit::{SettingsWords, StateWords};
 use door_words::answers::AnswerWords;
 use rules_servo::Servo;
-use unit_core::run::{Fresh, Run, one_more};
+use unit_core::run::{Fresh, one_more};
 
 #[derive(Clone, Copy)]
 pub struct Emptied {
@@ -22,33 +21,30 @@ pub fn clear(s: SettingsWords) -> Emptied
     ensures { result ≡ emptied_of s }
 {
     let fresh = Fresh::with(s.kp, s.ki);
-    let run = fresh.run;
-    let exchange = run.exchange;
-    let servo = fresh.servo;
     Emptied {
-        halves: HalvesWords::of(exchange),
-        delays: DelaysWords::of(exchange),
-        servo,
+        halves: fresh.run.exchange.into(),
+        delays: fresh.run.exchange.into(),
+        servo: fresh.servo,
     }
 }
 
 // No measurement since the wipe, and one wipe more. The rest stays.
-pub fn wipe(mut t: StateWords) -> StateWords
+pub fn wipe(t: StateWords) -> StateWords
     ensures { result ≡ wiped_state t }
 {
-    let run = Run::fresh();
-    t.at = run.at;
-    t.measured = flag(run.measured);
-    t.wipes = one_more(t.wipes);
-    t
+    StateWords {
+        at: 0,
+        wipes: one_more(t.wipes),
+        measured: 0,
+        ..t
+    }
 }
 
 // The operator's reset, which alone ends FAULTY.
-pub fn reset(mut t: StateWords) -> StateWords
+pub fn reset(t: StateWords) -> StateWords
     ensures { result ≡ reset_state t }
 {
-    t.faulty = 0;
-    wipe(t)
+    wipe(StateWords { faulty: 0, ..t })
 }
 
 // The answer to a reset.

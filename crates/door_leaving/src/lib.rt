@@ -1,14 +1,16 @@
 // What a call leaves of the parts that it is lent, stored where they lie: at a wipe, after a choice, an Announce, a message of the exchange, a t3, a pulse.
+// unit, servo and watch stay three parameters: C lends each by itself, and so do the exports.
 #![tactic(auto)]
 
-ghost use Rattle.std.specs.Prelude.{◌≡◌, []};
+ghost use Rattle.std.specs.Prelude.{◌≡◌, [], Ok};
 ghost use Rattle.rules_watch.specs.Watch.{fresh_watch};
 ghost use Rattle.door_core.specs.Wiping.{emptied_of};
-ghost use Rattle.door_loop.specs.Lending.{unit_with, lent_by, announced_in, heard_in, sent_of, tick_of};
+ghost use Rattle.door_loop.specs.Lending.{unit_with, lent_by, announced_in, told_in, heard_in, sent_of, tick_of};
 
 use door_choosing::Held;
-use door_core::{ticking, wiping};
+use door_core::wiping;
 use door_measuring::measuring;
+use door_measuring::measuring::Told;
 use door_records::masters::MasterWords;
 use door_records::unit::UnitWords;
 use door_words::answers::AnswerWords;
@@ -23,38 +25,28 @@ pub fn freshen(unit: &mut UnitWords, servo: &mut Servo, watch: &mut Watch)
         × (servo.new ≡ (emptied_of unit.old.settings).servo)
         × (watch.new ≡ fresh_watch) }
 {
-    let s = unit.settings;
-    let f = wiping::clear(s);
-    unit.halves = f.halves;
-    unit.delays = f.delays;
-    *servo = f.servo;
-    watch.head = rules_watch::empty(&mut watch.references, &mut watch.ys, &mut watch.marks);
+    let fresh = wiping::clear(unit.settings);
+    unit.halves = fresh.halves;
+    unit.delays = fresh.delays;
+    *servo = fresh.servo;
+    watch.empty();
 }
 
 // After a choice: a new or lost master wipes.
-pub fn hold(
-    unit: &mut UnitWords,
-    servo: &mut Servo,
-    watch: &mut Watch,
-    q: Held,
-    answer: &mut AnswerWords,
-)
-    ensures { (unit.new ≡ (lent_by unit.old servo.old [] watch.old q).unit)
+pub fn hold(unit: &mut UnitWords, servo: &mut Servo, watch: &mut Watch, q: Held) -> AnswerWords
+    ensures { (result ≡ (lent_by unit.old servo.old [] watch.old q).answer)
+        × (unit.new ≡ (lent_by unit.old servo.old [] watch.old q).unit)
         × (servo.new ≡ (lent_by unit.old servo.old [] watch.old q).servo)
-        × (watch.new ≡ (lent_by unit.old servo.old [] watch.old q).watch)
-        × (answer.new ≡ (lent_by unit.old servo.old [] watch.old q).answer) }
+        × (watch.new ≡ (lent_by unit.old servo.old [] watch.old q).watch) }
 {
-    *answer = q.answer;
     unit.state = q.state;
-    let wipes = q.wipes;
-    if wipes {
+    if q.wipes {
         freshen(unit, servo, watch);
-        return;
     }
+    q.answer
 }
 
 // An Announce: one place of the table is stored, and the choice is made over the five.
-#[tactic(auto, using(crate::proofs::Seats::seated_below))]
 pub fn announce(
     unit: &mut UnitWords,
     servo: &mut Servo,
@@ -62,40 +54,41 @@ pub fn announce(
     watch: &mut Watch,
     m: Message,
     time: u64,
-    answer: &mut AnswerWords,
-)
-    ensures { (unit.new ≡ (announced_in unit.old servo.old table.old watch.old m time).unit)
+) -> AnswerWords
+    ensures { (result ≡ (announced_in unit.old servo.old table.old watch.old m time).answer)
+        × (unit.new ≡ (announced_in unit.old servo.old table.old watch.old m time).unit)
         × (servo.new ≡ (announced_in unit.old servo.old table.old watch.old m time).servo)
         × (table.new ≡ (announced_in unit.old servo.old table.old watch.old m time).table)
-        × (watch.new ≡ (announced_in unit.old servo.old table.old watch.old m time).watch)
-        × (answer.new ≡ (announced_in unit.old servo.old table.old watch.old m time).answer) }
+        × (watch.new ≡ (announced_in unit.old servo.old table.old watch.old m time).watch) }
 {
-    if table.len() != 5 {
-        *answer = door_choosing::untabled();
-        return;
+    match door_choosing::announce(unit.settings, unit.state, table, m, time) {
+        Ok(seated) => {
+            table[seated.at] = seated.stored;
+            hold(unit, servo, watch, seated.held)
+        }
+        Err(refusal) => refusal.into(),
     }
-    let s = unit.settings;
-    let t = unit.state;
-    let e = door_choosing::span(s);
-    let a0 = door_choosing::look(table[0], m, time, e);
-    let a1 = door_choosing::look(table[1], m, time, e);
-    let a2 = door_choosing::look(table[2], m, time, e);
-    let a3 = door_choosing::look(table[3], m, time, e);
-    let a4 = door_choosing::look(table[4], m, time, e);
-    let p = door_choosing::seat_in(s, t, m, time, a0, a1, a2, a3, a4);
-    let full = p.barred;
-    if full {
-        *answer = door_choosing::unseated(p);
-        return;
-    }
-    let at = p.at;
-    let w = door_choosing::place(table[at], m, p, time);
-    table[at] = w;
-    let q = door_choosing::choose(t, time, e, p, w, a0, a1, a2, a3, a4);
-    hold(unit, servo, watch, q, answer);
 }
 
-// A message of the exchange, and what its answer leaves: a measurement steers the servo; a wipe has its fresh exchange and servo in what is told.
+// What the exchange said: a measurement steers the servo; a wipe has its fresh exchange and servo in what is told.
+fn store(unit: &mut UnitWords, servo: &mut Servo, watch: &mut Watch, q: Told) -> AnswerWords
+    ensures { (result ≡ (told_in unit.old servo.old [] watch.old (Ok q)).answer)
+        × (unit.new ≡ (told_in unit.old servo.old [] watch.old (Ok q)).unit)
+        × (servo.new ≡ (told_in unit.old servo.old [] watch.old (Ok q)).servo)
+        × (watch.new ≡ (told_in unit.old servo.old [] watch.old (Ok q)).watch) }
+{
+    unit.state = q.state;
+    unit.halves = q.halves;
+    unit.delays = q.delays;
+    let next = measuring::steer(*servo, unit.settings, q.said);
+    *servo = next;
+    if q.said.wipes() {
+        watch.empty();
+    }
+    AnswerWords::exchanging(q.said, next.output)
+}
+
+// A message of the exchange, and what its answer leaves.
 pub fn measure(
     unit: &mut UnitWords,
     servo: &mut Servo,
@@ -103,38 +96,15 @@ pub fn measure(
     m: Message,
     time: u64,
     arrival: Stamp,
-    answer: &mut AnswerWords,
-)
-    ensures { (unit.new ≡ (heard_in unit.old servo.old [] watch.old m time arrival).unit)
+) -> AnswerWords
+    ensures { (result ≡ (heard_in unit.old servo.old [] watch.old m time arrival).answer)
+        × (unit.new ≡ (heard_in unit.old servo.old [] watch.old m time arrival).unit)
         × (servo.new ≡ (heard_in unit.old servo.old [] watch.old m time arrival).servo)
-        × (watch.new ≡ (heard_in unit.old servo.old [] watch.old m time arrival).watch)
-        × (answer.new ≡ (heard_in unit.old servo.old [] watch.old m time arrival).answer) }
+        × (watch.new ≡ (heard_in unit.old servo.old [] watch.old m time arrival).watch) }
 {
-    let s = unit.settings;
-    let t = unit.state;
-    let h = unit.halves;
-    let d = unit.delays;
-    let q = measuring::hear(s, t, h, d, m, time, arrival);
-    let refuses = q.barred;
-    if refuses {
-        *answer = measuring::untold(q);
-        return;
-    }
-    unit.state = q.state;
-    unit.halves = q.halves;
-    unit.delays = q.delays;
-    let v = *servo;
-    let found = q.found;
-    let steers = q.steers;
-    let wipes = q.wipes;
-    let n = measuring::steer(v, s, found, steers, wipes);
-    *servo = n;
-    let code = q.code;
-    let asked = q.sequence;
-    *answer = measuring::say(code, asked, found, steers, n);
-    if wipes {
-        watch.head = rules_watch::empty(&mut watch.references, &mut watch.ys, &mut watch.marks);
-        return;
+    match measuring::hear(unit, m, time, arrival) {
+        Ok(q) => store(unit, servo, watch, q),
+        Err(refusal) => refusal.into(),
     }
 }
 
@@ -146,38 +116,15 @@ pub fn sent(
     time: u64,
     sequence: u16,
     t3: Stamp,
-    answer: &mut AnswerWords,
-)
-    ensures { (unit.new ≡ (sent_of unit.old servo.old watch.old time sequence t3).unit)
+) -> AnswerWords
+    ensures { (result ≡ (sent_of unit.old servo.old watch.old time sequence t3).answer)
+        × (unit.new ≡ (sent_of unit.old servo.old watch.old time sequence t3).unit)
         × (servo.new ≡ (sent_of unit.old servo.old watch.old time sequence t3).servo)
-        × (watch.new ≡ (sent_of unit.old servo.old watch.old time sequence t3).watch)
-        × (answer.new ≡ (sent_of unit.old servo.old watch.old time sequence t3).answer) }
+        × (watch.new ≡ (sent_of unit.old servo.old watch.old time sequence t3).watch) }
 {
-    let s = unit.settings;
-    let t = unit.state;
-    let h = unit.halves;
-    let d = unit.delays;
-    let q = measuring::send(s, t, h, d, time, sequence, t3);
-    let refuses = q.barred;
-    if refuses {
-        *answer = measuring::untold(q);
-        return;
-    }
-    unit.state = q.state;
-    unit.halves = q.halves;
-    unit.delays = q.delays;
-    let v = *servo;
-    let found = q.found;
-    let steers = q.steers;
-    let wipes = q.wipes;
-    let n = measuring::steer(v, s, found, steers, wipes);
-    *servo = n;
-    let code = q.code;
-    let asked = q.sequence;
-    *answer = measuring::say(code, asked, found, steers, n);
-    if wipes {
-        watch.head = rules_watch::empty(&mut watch.references, &mut watch.ys, &mut watch.marks);
-        return;
+    match measuring::send(unit, time, sequence, t3) {
+        Ok(q) => store(unit, servo, watch, q),
+        Err(refusal) => refusal.into(),
     }
 }
 
@@ -188,31 +135,20 @@ pub fn pulse(
     watch: &mut Watch,
     reference: i64,
     clock: i64,
-    answer: &mut AnswerWords,
-)
-    ensures { (unit.new ≡ (tick_of unit.old servo.old watch.old reference clock).unit)
+) -> AnswerWords
+    ensures { (result ≡ (tick_of unit.old servo.old watch.old reference clock).answer)
+        × (unit.new ≡ (tick_of unit.old servo.old watch.old reference clock).unit)
         × (servo.new ≡ (tick_of unit.old servo.old watch.old reference clock).servo)
-        × (watch.new ≡ (tick_of unit.old servo.old watch.old reference clock).watch)
-        × (answer.new ≡ (tick_of unit.old servo.old watch.old reference clock).answer) }
+        × (watch.new ≡ (tick_of unit.old servo.old watch.old reference clock).watch) }
 {
-    let s = unit.settings;
-    let h = watch.head;
-    let p = ticking::tick(
-        s,
-        h,
-        &mut watch.references,
-        &mut watch.ys,
-        &mut watch.marks,
-        reference,
-        clock,
-    );
-    *answer = p.answer;
-    let wipes = p.wipes;
-    if wipes {
-        let t = unit.state;
-        unit.state = wiping::wipe(t);
-        freshen(unit, servo, watch);
-        return;
+    match watch.take(unit.settings.watch(), reference, clock) {
+        Ok(pulse) => {
+            if pulse.wipes() {
+                unit.state = wiping::wipe(unit.state);
+                freshen(unit, servo, watch);
+            }
+            pulse.into()
+        }
+        Err(refusal) => refusal.into(),
     }
-    watch.head = p.head;
 }

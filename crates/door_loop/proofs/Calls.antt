@@ -1,30 +1,27 @@
 -- A call that is lent no table: what it leaves of the parts is what the unit makes of it.
+use Rattle.std.specs.Prelude.{Ok, Err}
 use mathlib.Core.Path.{◌≡◌, refl, sym, ap, ◌∙◌}
-use mathlib.Core.Bool.{Bool, cond, true, false}
+use mathlib.Core.Bool.{Bool, true, false}
 use mathlib.Core.List.{List, []}
 use Prim.Native.Nat.{ℕ}
 use lib.IntN.{ℤ}
 use lib.ListN.{length}
 use Rattle.numbers.specs.declared.stamp.Stamp.{Stamp}
-use Rattle.numbers.specs.declared.ruling.Ruling.{Ruling}
-use Rattle.numbers.specs.declared.ruling.Ruling.TheVariants.{Clear, Barred}
+use Rattle.numbers.specs.Grounds.{Ruling}
+use Rattle.rules_exchange.specs.Events.{Answer as Tells}
+use Rattle.rules_watch.specs.Rules.{Drift}
 use Rattle.numbers.specs.Grounds.{first_of}
 use Rattle.numbers.specs.Orders.{of_exchange}
 use Rattle.wire_layout.specs.declared.message.Header.{Header}
 use Rattle.wire_layout.specs.declared.message.Body.{Body}
-use Rattle.rules_exchange.specs.declared.Answer.{Answer as Tells}
-use Rattle.rules_exchange.specs.declared.Answer.TheVariants as tells
-use Rattle.rules_exchange.specs.declared.Answered.{Answered}
+use Rattle.rules_exchange.specs.Events.{Answered}
 use Rattle.rules_exchange.specs.declared.Exchange.{Exchange}
 use Rattle.rules_exchange.specs.declared.said.Said.{Said}
 use Rattle.rules_exchange.specs.declared.said.Said.TheVariants.{Held, Paired, Asked, Stamped, Back, Neg, Long, Huge, HugeFaulty, Path, PathWiped, Step, Measured}
 use Rattle.rules_exchange.specs.Table.{sent as leaves, requested, row_by}
 use Rattle.rules_exchange.specs.Events.{told, field_of, tells_of, stamp_taken}
-use Rattle.rules_watch.specs.declared.Drift.{Drift}
-use Rattle.rules_watch.specs.declared.Drift.TheVariants as drift
 use Rattle.rules_watch.specs.Rules.{wipes_of, pulse_of}
-use Rattle.rules_watch.specs.Watch.{taken_by, took_of, since_of, watch_line}
-use Rattle.rules_watch.proofs.Places.{line-in}
+use Rattle.rules_watch.specs.Watch.{taken_by, since_of, watch_line}
 use Rattle.rules_settings.specs.declared.Settings.{Settings}
 use Rattle.unit_core.specs.Effects.{Stays, Progress, Effect, stays_of, progress_of, with_now, unless}
 use Rattle.unit_measuring.specs.Measuring.{by_said, exchanges}
@@ -42,12 +39,10 @@ use Rattle.unit_handing.specs.Handing.{request, sent, tick, line, asked_of, serv
 use Rattle.door_records.specs.declared.unit.UnitWords.{UnitWords}
 use Rattle.door_records.specs.Unit.{core_in, settings_in, exchange_in}
 use Rattle.door_records.proofs.Backs.{exchange-back}
-use Rattle.door_words.specs.Answers.{answer_words, drift_words, refusing}
-use Rattle.door_core.specs.Ticking.{ticked_by}
-use Rattle.door_measuring.specs.declared.measuring.Told.{Told}
+use Rattle.door_words.specs.Answers.{answer_words, drift_words}
 use Rattle.door_measuring.specs.Asking.{requested_by}
-use Rattle.door_measuring.specs.Measuring.{told_by, unless_told, spoken_told, sent_told, servo_after}
-use Rattle.door_loop.specs.Lending.{says, spoken_in, told_in, ticked_in}
+use Rattle.door_measuring.specs.Measuring.{Telling, told_by, unless_told, spoken_told, sent_told}
+use Rattle.door_loop.specs.Lending.{told_in, ticked_in}
 use Rattle.door_loop.specs.Loop.{Parts, unit_in, Found, from_lent, from_turned, lends, Meant, means}
 
 -- what is found tells this
@@ -82,10 +77,10 @@ module _ (p : Parts) where
   by e = stepped (applied c c.table e)
 
   -- ---- the exchange
-  abbrev exchanged : Told → Meant
+  abbrev exchanged : Telling → Meant
   exchanged q = meant_in (from_lent (told_in u p.servo p.table p.watch q))
 
-  said_same : (now : ℕ) (x : Exchange) (said : Said) → exchanged (spoken_told u.state now x said) ≡ by (by_said set (with_now now stays) progress x said)
+  said_same : (now : ℕ) (x : Exchange) (said : Said) → exchanged (Ok (spoken_told u.state now x said)) ≡ by (by_said set (with_now now stays) progress x said)
   unfolding by_said
   said_same now x Held = rw (exchange-back x)
   said_same now x Paired = rw (exchange-back x)
@@ -102,38 +97,27 @@ module _ (p : Parts) where
   said_same now x (Measured found) = rw (exchange-back x)
 
   told_same : (now : ℕ) (a : Tells) (x : Exchange) → exchanged (told_by u.state now a x) ≡ by (exchanges set (with_now now stays) progress (record { answer = a; exchange = x }))
-  told_same now (tells.Refused n) x = refl
-  told_same now (tells.Says said) x = said_same now x said
+  told_same now (Err n) x = refl
+  told_same now (Ok said) x = said_same now x said
 
   pub unless-same : (now : ℕ) (v : Ruling) (a : Answered)
-      → exchanged (unless_told u.state v (told_by u.state now a.answer a.exchange)) ≡ by (unless v (exchanges set (with_now now stays) progress a))
-  unless-same now Clear a = told_same now a.answer a.exchange
-  unless-same now (Barred n) a = refl
+      → exchanged (unless_told v (told_by u.state now a.answer a.exchange)) ≡ by (unless v (exchanges set (with_now now stays) progress a))
+  unless-same now (Ok _) a = told_same now a.answer a.exchange
+  unless-same now (Err n) a = refl
 
   -- a call that is lent no table leaves it
-  turned_same : (q : Told) → meant_in (from_turned p (told_in u p.servo [] p.watch q)) ≡ exchanged q
-  turned_same q = go q.barred
-    where
-      go : (b : Bool)
-          → meant_in
-          (from_turned p
-          (cond b (says u p.servo [] p.watch (refusing q.number))
-          (spoken_in u [] p.watch q (servo_after u.settings p.servo q.found q.steers q.wipes))))
-          ≡ meant_in
-          (from_lent
-          (cond b (says u p.servo p.table p.watch (refusing q.number))
-          (spoken_in u p.table p.watch q (servo_after u.settings p.servo q.found q.steers q.wipes))))
-      go true = refl
-      go false = refl
+  turned_same : (q : Telling) → meant_in (from_turned p (told_in u p.servo [] p.watch q)) ≡ exchanged q
+  turned_same (Err n) = refl
+  turned_same (Ok q) = refl
 
   pub sent-same : (now sequence : ℕ) (t3 : Stamp) → meant_in (lends p (sent now sequence t3)) ≡ means c (sent now sequence t3)
   unfolding lends means served_of asked_of sends
   sent-same now sequence t3 =
-      turned_same (sent_told u.settings u.state u.halves u.delays now sequence t3) ∙ unless-same now (first_of (of_exchange (own_due stays now (field_of t3)))) (told held (leaves sequence t3))
+      turned_same (sent_told u now sequence t3) ∙ unless-same now (first_of (of_exchange (own_due stays now (field_of t3)))) (told held (leaves sequence t3))
       ∙ ap by (sym (unless-told set (with_now now stays) progress held (leaves sequence t3) (own_due stays now (field_of t3)) refl refl refl))
 
   pub heard-same : (now : ℕ) (t2 : Stamp) (h : Header) (b : Body)
-      → exchanged (unless_told u.state (first_of (message_grounds set stays now t2 h b)) (told_by u.state now (handed held set.own t2 h b).answer (handed held set.own t2 h b).exchange))
+      → exchanged (unless_told (first_of (message_grounds set stays now t2 h b)) (told_by u.state now (handed held set.own t2 h b).answer (handed held set.own t2 h b).exchange))
       ≡ by (unless (first_of (message_grounds set stays now t2 h b)) (exchanges set (with_now now stays) progress (handed held set.own t2 h b)))
   heard-same now t2 h b = unless-same now (first_of (message_grounds set stays now t2 h b)) (handed held set.own t2 h b)
 
@@ -160,8 +144,8 @@ module _ (p : Parts) where
       })
       ≡ by (unless v (exchanges set (with_next_sequence now stays) progress (tells_of held (requested u.state.sequence))))
   unfolding tells_of row_by stamp_taken by_said
-  asked-same now Clear = refl
-  asked-same now (Barred n) = refl
+  asked-same now (Ok _) = refl
+  asked-same now (Err n) = refl
 
   pub requested-same : (frame : List ℕ) (now : ℕ) → meant_in (lends p (request frame now)) ≡ means c (request frame now)
   unfolding lends means served_of asked_of requests
@@ -177,15 +161,15 @@ module _ (p : Parts) where
   unfolding lends means served_of asked_of
   ticked-same reference clock =
       every-outcome
-      (λ o. meant_in (from_turned p (ticked_in u p.servo (taken_by set.watch p.watch o) (ticked_by (took_of (taken_by set.watch p.watch o))))) ≡ by (ticks stays o))
+      (λ o. meant_in (from_turned p (ticked_in u p.servo (taken_by set.watch p.watch o))) ≡ by (ticks stays o))
       (λ n. refl) (λ a k. rw k) (λ origin x. rw (taken-wipes-not x.valid))
       set.watch (since_of p.watch) reference clock
 
   -- ---- the line
   drift-same : (d : Drift) (count : ℕ) → drift_words d count ≡ answer_words (line_by d count)
-  drift-same (drift.Refused n) count = refl
-  drift-same (drift.Line l) count = refl
+  drift-same (Err n) count = refl
+  drift-same (Ok l) count = refl
 
   pub lined-same : meant_in (lends p line) ≡ means c line
   unfolding lends means served_of asked_of
-  lined-same = rw (line-in set.watch p.watch, drift-same (watch_line set.watch p.watch) u.state.wipes)
+  lined-same = rw (drift-same (watch_line set.watch p.watch) u.state.wipes)

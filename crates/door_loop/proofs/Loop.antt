@@ -1,5 +1,6 @@
 -- A loop that lends the parts as the last call left them is the unit: after any list of calls the parts tell the unit's state, and every answer is the
 -- unit's answer as numbers. So what is proved of a list of calls of the unit holds of the loop.
+use Rattle.std.specs.Prelude.{Ok, Err}
 use mathlib.Core.Path.{◌≡◌, refl, sym, ap, ◌∙◌}
 use mathlib.Core.Bool.{Bool, true, false, cond, not}
 use mathlib.Core.List.{List, [], ◌∷◌, map}
@@ -12,8 +13,8 @@ use Rattle.numbers.specs.Grounds.{first_of}
 use Rattle.wire_layout.specs.declared.message.Header.{Header}
 use Rattle.wire_layout.specs.declared.message.Body.{Body}
 use Rattle.wire_layout.specs.declared.message.Body.TheVariants as bodies
-use Rattle.wire_layout.specs.declared.message.Read.{Read}
-use Rattle.wire_layout.specs.declared.message.Read.TheVariants as reads
+use Rattle.wire_layout.specs.Reading.{Read}
+use Rattle.unit_handing.specs.Handing.{Asked}
 use Rattle.wire_layout.specs.Reading.{read_of}
 use Rattle.rules_masters.proofs.Admissions.{admission-five}
 use Rattle.rules_settings.specs.declared.Settings.{Settings}
@@ -22,8 +23,6 @@ use Rattle.unit_choosing.specs.Choosing.{announces}
 use Rattle.unit_measuring.specs.Hearing.{hears}
 use Rattle.unit_measuring.proofs.Barring.{heard-by}
 use Rattle.unit.specs.declared.Unit.{Unit}
-use Rattle.unit_handing.specs.declared.Asked.{Asked}
-use Rattle.unit_handing.specs.declared.Asked.TheVariants.{Barred, Asks}
 use Rattle.unit.specs.Calls.{unit_table, fresh_unit}
 use Rattle.unit_handing.specs.Handing.{Handed, receive, request, sent, time, reset, tick, line, show, message_asked, read_asked, time_asked, asked_of, stepped_by, served_of, served_all}
 use Rattle.door_records.specs.declared.masters.MasterWords.{MasterWords}
@@ -57,12 +56,12 @@ module _ (p : Parts) where
 
     -- octets: those that cannot be read change nothing
     read_same : (r : Read) (now : ℕ) (t2 : Stamp) → meant_in (from_lent (received_in (u p) p.servo p.table p.watch (received_by r) now t2)) ≡ stepped (stepped_by (c p) (read_asked 5 r now t2))
-    read_same (reads.Refused n) now t2 = refl
-    read_same (reads.Got m part) now t2 = message-same now t2 m.header m.body
+    read_same (Err n) now t2 = refl
+    read_same (Ok (m, part)) now t2 = message-same now t2 m.header m.body
 
     timed-same : (now : ℕ) → meant_in (lends p (time own now)) ≡ means (c p) (time own now)
     unfolding lends means served_of asked_of time_asked first_of
-    timed-same now = tabled (length p.table) five _ _ ∙ passed-same p now
+    timed-same now = tabled (length p.table) five _ _ ∙ passed-same p five now
 
   -- ---- .. and with another that is not of five: refused, whatever it holds
   module _ (t : List MasterWords) (e : eqb (length t) 5 ≡ false) where
@@ -76,8 +75,8 @@ module _ (p : Parts) where
     stray-message now t2 h (bodies.Announce s o) = rw e
 
     stray-read : (r : Read) (now : ℕ) (t2 : Stamp) → meant_in (from_turned p (received_in (u p) p.servo t p.watch (received_by r) now t2)) ≡ stepped (stepped_by (c p) (read_asked (length t) r now t2))
-    stray-read (reads.Refused n) now t2 = refl
-    stray-read (reads.Got m part) now t2 = stray-message now t2 m.header m.body
+    stray-read (Err n) now t2 = refl
+    stray-read (Ok (m, part)) now t2 = stray-message now t2 m.header m.body
 
     stray-time : (now : ℕ) → meant_in (from_turned p (time_of (u p) p.servo t p.watch now)) ≡ stepped (stepped_by (c p) (time_asked (length t) now))
     unfolding time_asked first_of
@@ -107,15 +106,15 @@ five-kind x five now arrival h (bodies.DelayResp s q) = five
 five-kind x five now arrival h (bodies.Announce s o) = admission-five x.table (record { header = h; stamp = s; offer = o }) _ _ _ _ _ five
 
 five-asked : (x : Unit) → length x.table.records ≡ 5 → (asked : Asked) → length (stepped_by x asked).unit.table.records ≡ 5
-five-asked x five (Barred r) = five
-five-asked x five (Asks (Receive now arrival m)) = five-kind x five now arrival m.header m.body
-five-asked x five (Asks (Request now room)) = five
-five-asked x five (Asks (Sent now sequence t3)) = five
-five-asked x five (Asks (Time now)) = five
-five-asked x five (Asks Reset) = five
-five-asked x five (Asks (Tick reference clock)) = five
-five-asked x five (Asks Line) = five
-five-asked x five (Asks Show) = five
+five-asked x five (Err r) = five
+five-asked x five (Ok (Receive now arrival m)) = five-kind x five now arrival m.header m.body
+five-asked x five (Ok (Request now room)) = five
+five-asked x five (Ok (Sent now sequence t3)) = five
+five-asked x five (Ok (Time now)) = five
+five-asked x five (Ok Reset) = five
+five-asked x five (Ok (Tick reference clock)) = five
+five-asked x five (Ok Line) = five
+five-asked x five (Ok Show) = five
 
 pub five-after : (p : Parts) → length p.table ≡ 5 → (call : Handed Table) → length (lends p call).parts.table ≡ 5
 unfolding means served_of

@@ -1,39 +1,38 @@
 -- What a call leaves of the parts that it is lent, octet by octet: the unit, the servo record, the table, the watch; and its answer.
 -- What is refused leaves the parts as they were.
-use Rattle.std.specs.Prelude.{cond, List, [], ℕ, eqb, ℤ, length, get_or, set}
+use Rattle.std.specs.Prelude.{cond, List, [], ℕ, eqb, ℤ, length, set, Ok, Err, Result}
+use Rattle.numbers.specs.declared.refusal.Refusal.{Refusal}
+use Rattle.numbers.specs.Orders.{number_of}
 use Rattle.numbers.specs.declared.stamp.Stamp.{Stamp}
 use Rattle.wire_layout.specs.declared.message.Message.{Message}
 use Rattle.wire_layout.specs.Reading.{read_of}
 use Rattle.rules_masters.specs.declared.chosen.Chosen.{Chosen}
-use Rattle.rules_masters.specs.declared.standing.Standing.{Standing}
-use Rattle.rules_masters.specs.declared.candidate.Candidate.{Candidate}
-use Rattle.rules_masters.specs.Records.{interval_of, fresh_record}
-use Rattle.rules_masters.specs.Admitting.{standing_of}
-use Rattle.rules_masters.specs.Inner.{candidate_of, best_of}
+use Rattle.rules_masters.specs.declared.admission.Entry.{Entry}
+use Rattle.rules_masters.specs.Admitting.{Answer as Admission}
+use Rattle.rules_masters.specs.Inner.{place_in}
+use Rattle.rules_exchange.specs.Said.{wipes_of}
 use Rattle.rules_servo.specs.declared.Servo.{Servo}
 use Rattle.rules_watch.specs.declared.Watch.{Watch}
-use Rattle.rules_watch.specs.declared.Taken.{Taken}
-use Rattle.rules_watch.specs.Watch.{fresh_watch, taken_of, took_of}
+use Rattle.rules_watch.specs.Rules.{Answer, wipes_of as pulse_wipes, code_of}
+use Rattle.rules_watch.specs.Watch.{Taken, fresh_watch, taken_of}
 use Rattle.door_records.specs.declared.unit.UnitWords.{UnitWords}
 use Rattle.door_records.specs.declared.unit.StateWords.{StateWords}
 use Rattle.door_records.specs.declared.exchange.HalvesWords.{HalvesWords}
 use Rattle.door_records.specs.declared.exchange.DelaysWords.{DelaysWords}
 use Rattle.door_records.specs.declared.masters.MasterWords.{MasterWords}
 use Rattle.door_records.specs.Unit.{watch_in}
-use Rattle.door_records.specs.Masters.{record_in, master_words}
+use Rattle.door_records.specs.Masters.{master_words}
 use Rattle.door_words.specs.declared.answers.AnswerWords.{AnswerWords}
-use Rattle.door_words.specs.Answers.{plain, refusing}
+use Rattle.door_words.specs.Answers.{plain, refusing, exchanging}
 use Rattle.door_core.specs.declared.receiving.Received.{Received}
+use Rattle.door_core.specs.declared.receiving.Received.TheVariants.{Announce, Exchange}
 use Rattle.door_core.specs.declared.wiping.Emptied.{Emptied}
-use Rattle.door_core.specs.declared.ticking.Ticked.{Ticked}
 use Rattle.door_core.specs.Wiping.{wiped_state, reset_state, emptied_of}
-use Rattle.door_core.specs.Receiving.{received_by}
-use Rattle.door_core.specs.Ticking.{ticked_by}
+use Rattle.door_core.specs.Receiving.{Sorted, received_by}
 use Rattle.door_choosing.specs.declared.Held.{Held}
-use Rattle.door_choosing.specs.declared.Seated.{Seated}
-use Rattle.door_choosing.specs.Choosing.{seat_by, placed_of, held_of, timed_of, untabled_of}
+use Rattle.door_choosing.specs.Choosing.{announce_in, seat_by, placed_of, best_in, held_of, timed_of, untabled_of}
 use Rattle.door_measuring.specs.declared.measuring.Told.{Told}
-use Rattle.door_measuring.specs.Measuring.{heard_told, sent_told, servo_after, output_said}
+use Rattle.door_measuring.specs.Measuring.{Telling, heard_told, sent_told, servo_after}
 use Rattle.door_measuring.specs.Asking.{requested_of}
 
 pub record Lent : Type 0 where
@@ -65,45 +64,35 @@ spoken_in u t w q n =
       unit = unit_with u q.state q.halves q.delays;
       servo = n;
       table = t;
-      watch = cond q.wipes fresh_watch w;
-      answer = output_said q.code q.sequence q.found q.steers n;
+      watch = cond (wipes_of q.said) fresh_watch w;
+      answer = exchanging q.said n.output;
     }
 
-abbrev pub told_in : UnitWords → Servo → List MasterWords → Watch → Told → Lent
-told_in u v t w q = cond q.barred (says u v t w (refusing q.number)) (spoken_in u t w q (servo_after u.settings v q.found q.steers q.wipes))
+abbrev pub told_in : UnitWords → Servo → List MasterWords → Watch → Telling → Lent
+told_in u v t w (Err r) = says u v t w (refusing (number_of r))
+told_in u v t w (Ok q) = spoken_in u t w q (servo_after u.settings v q.said)
 
 abbrev pub heard_in : UnitWords → Servo → List MasterWords → Watch → Message → ℕ → Stamp → Lent
-heard_in u v t w m now t2 = told_in u v t w (heard_told u.settings u.state u.halves u.delays m now t2)
+heard_in u v t w m now t2 = told_in u v t w (heard_told u m now t2)
 
 -- ---- the choice
 abbrev pub lent_by : UnitWords → Servo → List MasterWords → Watch → Held → Lent
 lent_by u v t w q = cond q.wipes (wiped_in u q.state t q.answer (emptied_of u.settings)) (says (with_state u q.state) v t w q.answer)
 
--- what is asked of the record at a place
-abbrev pub fresh_master : MasterWords
-fresh_master = master_words fresh_record
-
-abbrev pub standing_at : UnitWords → List MasterWords → Message → ℕ → ℕ → Standing
-standing_at u t m now k = standing_of m.header.source m.header.sequence now (interval_of u.settings.announce) (record_in (get_or t k fresh_master))
-
-abbrev pub candidate_at : UnitWords → List MasterWords → ℕ → ℕ → Candidate
-candidate_at u t now k = candidate_of now (interval_of u.settings.announce) (record_in (get_or t k fresh_master))
-
+-- the choice over a table
 abbrev pub chosen_in : UnitWords → List MasterWords → ℕ → Chosen
-chosen_in u t now = best_of (candidate_at u t now 0) (candidate_at u t now 1) (candidate_at u t now 2) (candidate_at u t now 3) (candidate_at u t now 4)
+chosen_in u t now = best_in u.settings t now
 
 -- the Announce is refused, or one place of the table is stored and the choice is made over the five
-abbrev pub placed_in : List MasterWords → Message → ℕ → Seated → List MasterWords
-placed_in t m now p = set t p.at (placed_of (get_or t p.at fresh_master) m p.known now)
+abbrev pub placed_in : List MasterWords → Message → ℕ → Entry → List MasterWords
+placed_in t m now p = set t (place_in p) (master_words (placed_of t (announce_in m) now p))
 
-abbrev pub seated_in : UnitWords → Servo → List MasterWords → Watch → Message → ℕ → Seated → Lent
-seated_in u v t w m now p =
-    cond p.barred (says u v t w (refusing p.number))
-    (lent_by u v (placed_in t m now p) w (held_of u.state now (chosen_in u (placed_in t m now p) now)))
+abbrev pub seated_in : UnitWords → Servo → List MasterWords → Watch → Message → ℕ → Admission → Lent
+seated_in u v t w m now (Err n) = says u v t w (refusing (number_of n))
+seated_in u v t w m now (Ok p) = lent_by u v (placed_in t m now p) w (held_of u.state now (chosen_in u (placed_in t m now p) now))
 
-abbrev pub seat_in : UnitWords → List MasterWords → Message → ℕ → Seated
-seat_in u t m now =
-    seat_by u.settings u.state m now (standing_at u t m now 0) (standing_at u t m now 1) (standing_at u t m now 2) (standing_at u t m now 3) (standing_at u t m now 4)
+abbrev pub seat_in : UnitWords → List MasterWords → Message → ℕ → Admission
+seat_in u t m now = seat_by u.settings u.state t (announce_in m) now
 
 -- 8 of a table that is not of five comes first
 abbrev pub announced_in : UnitWords → Servo → List MasterWords → Watch → Message → ℕ → Lent
@@ -111,33 +100,41 @@ announced_in u v t w m now = cond (eqb (length t) 5) (seated_in u v t w m now (s
 
 -- ---- a message: what is refused in reading and 3 of a Delay_Req come first, then 8 of a table that is not of five
 abbrev pub open_in : UnitWords → Servo → List MasterWords → Watch → Received → ℕ → Stamp → Lent
-open_in u v t w k now t2 =
-    cond k.announces (seated_in u v t w k.message now (seat_in u t k.message now))
-    (heard_in u v t w k.message now t2)
+open_in u v t w (Announce m) now t2 = seated_in u v t w m now (seat_in u t m now)
+open_in u v t w (Exchange m) now t2 = heard_in u v t w m now t2
 
-abbrev pub received_in : UnitWords → Servo → List MasterWords → Watch → Received → ℕ → Stamp → Lent
-received_in u v t w k now t2 =
-    cond k.barred (says u v t w (refusing k.number)) (cond (eqb (length t) 5) (open_in u v t w k now t2) (says u v t w untabled_of))
+abbrev pub received_in : UnitWords → Servo → List MasterWords → Watch → Sorted → ℕ → Stamp → Lent
+received_in u v t w (Err r) now t2 = says u v t w (refusing (number_of r))
+received_in u v t w (Ok k) now t2 = cond (eqb (length t) 5) (open_in u v t w k now t2) (says u v t w untabled_of)
 
 abbrev pub receive_of : UnitWords → Servo → List MasterWords → Watch → List ℕ → ℕ → Stamp → Lent
 receive_of u v t w octets now t2 = received_in u v t w (received_by (read_of octets)) now t2
 
+-- ---- the bare time call
+abbrev pub passed_in : UnitWords → Servo → List MasterWords → Watch → Result Held Refusal → Lent
+passed_in u v t w (Err n) = says u v t w (refusing (number_of n))
+passed_in u v t w (Ok q) = lent_by u v t w q
+
 abbrev pub time_of : UnitWords → Servo → List MasterWords → Watch → ℕ → Lent
-time_of u v t w now = cond (eqb (length t) 5) (lent_by u v t w (timed_of u.state now (chosen_in u t now))) (says u v t w untabled_of)
+time_of u v t w now = cond (eqb (length t) 5) (passed_in u v t w (timed_of u.settings u.state t now)) (says u v t w untabled_of)
 
 -- ---- the calls without a table: none is lent
 abbrev pub sent_of : UnitWords → Servo → Watch → ℕ → ℕ → Stamp → Lent
-sent_of u v w now sequence t3 = told_in u v [] w (sent_told u.settings u.state u.halves u.delays now sequence t3)
+sent_of u v w now sequence t3 = told_in u v [] w (sent_told u now sequence t3)
 
 abbrev pub reset_of : UnitWords → Lent
 reset_of u = wiped_in u (reset_state u.state) [] (plain 16) (emptied_of u.settings)
 
-abbrev pub ticked_in : UnitWords → Servo → Taken → Ticked → Lent
-ticked_in u v x q = cond q.wipes (wiped_in u (wiped_state u.state) [] q.answer (emptied_of u.settings)) (says u v [] x.watch q.answer)
+-- a second pulse: its sample is in the window, or it wipes
+abbrev pub pulsed_in : UnitWords → Servo → Watch → Answer → Lent
+pulsed_in u v w (Err r) = says u v [] w (refusing (number_of r))
+pulsed_in u v w (Ok p) = cond (pulse_wipes p) (wiped_in u (wiped_state u.state) [] (plain (code_of p)) (emptied_of u.settings)) (says u v [] w (plain (code_of p)))
+
+abbrev pub ticked_in : UnitWords → Servo → Taken → Lent
+ticked_in u v x = pulsed_in u v x.watch x.answer
 
 abbrev pub tick_of : UnitWords → Servo → Watch → ℤ → ℤ → Lent
-tick_of u v w reference clock =
-    ticked_in u v (taken_of (watch_in u.settings) w reference clock) (ticked_by (took_of (taken_of (watch_in u.settings) w reference clock)))
+tick_of u v w reference clock = ticked_in u v (taken_of (watch_in u.settings) w reference clock)
 
 -- the unit after a request
 abbrev pub unit_asking : UnitWords → ℕ → ℕ → UnitWords

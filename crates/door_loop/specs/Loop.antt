@@ -19,7 +19,8 @@ use Rattle.door_words.specs.Answers.{answer_words}
 use Rattle.door_core.specs.Showing.{shown_of}
 use Rattle.door_core.specs.Ticking.{lined_of}
 use Rattle.door_measuring.specs.Asking.{requested_of}
-use Rattle.door_loop.specs.Lending.{Lent, fresh_master, receive_of, time_of, unit_asking, sent_of, reset_of, tick_of}
+use Rattle.door_choosing.specs.Choosing.{fresh_master}
+use Rattle.door_loop.specs.Lending.{Lent, receive_of, time_of, unit_asking, sent_of, reset_of, tick_of}
 
 pub record Parts : Type 0 where
   pub unit : UnitWords
@@ -91,7 +92,7 @@ lends p (sent now sequence t3) = from_turned p (sent_of p.unit p.servo p.watch n
 lends p (time t now) = passes p t now
 lends p reset = from_turned p (reset_of p.unit)
 lends p (tick reference clock) = from_turned p (tick_of p.unit p.servo p.watch reference clock)
-lends p line = saying p (lined_of p.unit.settings p.unit.state p.watch.head p.watch.ys p.watch.marks)
+lends p line = saying p (lined_of p.unit.settings p.unit.state p.watch)
 lends p show = saying p (shown_of p.unit p.servo)
 
 -- a list of calls, the oldest first

@@ -1,7 +1,6 @@
 -- What a request leaves in the records.
-use Rattle.std.specs.Prelude.{ℕ, ◌+◌, ◌%◌, ◌^◌}
-use Rattle.numbers.specs.declared.ruling.Ruling.{Ruling}
-use Rattle.numbers.specs.declared.ruling.Ruling.TheVariants.{Clear, Barred}
+use Rattle.std.specs.Prelude.{ℕ, ◌+◌, ◌%◌, ◌^◌, Ok, Err}
+use Rattle.numbers.specs.Grounds.{Ruling}
 use Rattle.numbers.specs.Orders.{number_of}
 use Rattle.numbers.specs.Grounds.{first_of}
 use Rattle.rules_exchange.specs.Halves.{as_request, asked}
@@ -27,8 +26,8 @@ asked_with t h now =
 
 -- a refusal leaves both as they were
 abbrev pub requested_by : StateWords → HalvesWords → ℕ → Ruling → Requested
-requested_by t h now (Barred n) = record { answer = refusing (number_of n); state = t; halves = h }
-requested_by t h now Clear = asked_with t h now
+requested_by t h now (Err n) = record { answer = refusing (number_of n); state = t; halves = h }
+requested_by t h now (Ok _) = asked_with t h now
 
 abbrev pub requested_of : SettingsWords → StateWords → HalvesWords → ℕ → ℕ → Requested
 requested_of s t h now room = requested_by t h now (first_of (request_grounds (stays_of (core_of s t h (delays_words fresh_exchange))) now room))

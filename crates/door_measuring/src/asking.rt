@@ -5,18 +5,18 @@ ghost use Rattle.rules_exchange.specs.Events.{fresh_exchange};
 ghost use Rattle.door_records.specs.Unit.{delays_words, core_of};
 ghost use Rattle.door_measuring.specs.Asking.{asked_with, requested_of};
 
-use door_records::exchange::{DelaysWords, HalvesWords, RequestWords};
-use door_records::unit;
-use door_records::unit::{SettingsWords, StateWords};
+use door_records::exchange::HalvesWords;
+use door_records::unit::{StateWords, UnitWords};
 use door_words::answers::AnswerWords;
-use numbers::ruling::Ruling;
-use numbers::stamp::Stamp;
-use numbers::units::{Nanoseconds, Ppb};
+use numbers::units::Ppb;
+use rules_exchange::Exchange;
 use rules_exchange::halves::Request;
-use rules_exchange::{Accepted, Exchange};
+use rules_exchange::said::Said;
+use unit_core::Core;
 use unit_measuring::asking::request_barred;
 use wire_frames::write_frame;
 
+// No Result: state and halves are there on a refusal too, and the clauses of sinezhab_request name each.
 #[derive(Clone, Copy)]
 pub struct Requested {
     pub answer: AnswerWords,
@@ -25,53 +25,51 @@ pub struct Requested {
 }
 
 // The request is pending, and its sequenceId is used up.
-fn asked(mut t: StateWords, mut h: HalvesWords, now: u64) -> Requested
+// Not by Exchange::request: of the exchange a request reads and stores its own half alone.
+fn asked(t: StateWords, h: HalvesWords, now: u64) -> Requested
     ensures { result ≡ asked_with t h now }
 {
-    let sequence = t.sequence;
     let pending = Request {
         pending: true,
-        given: false,
-        sequence,
-        t3: Stamp::zero(),
+        sequence: t.sequence,
+        ..Request::fresh()
     };
-    let none = Accepted {
-        delay: Nanoseconds(0),
-        used: Nanoseconds(0),
-        offset: Nanoseconds(0),
-    };
-    h.request = RequestWords::of(pending);
-    t.now = now;
-    t.sequence = ((sequence as u32 + 1) % 65_536) as u16;
     Requested {
-        answer: AnswerWords::spoken(5, sequence, none, Ppb(0)),
-        state: t,
-        halves: h,
+        answer: AnswerWords::exchanging(Said::Asked(t.sequence), Ppb(0)),
+        state: StateWords {
+            now,
+            sequence: t.sequence.wrapping_add(1),
+            ..t
+        },
+        halves: HalvesWords {
+            request: pending.into(),
+            ..h
+        },
     }
 }
 
-pub fn request(
-    s: SettingsWords,
-    t: StateWords,
-    h: HalvesWords,
-    frame: &mut [u8],
-    time: u64,
-) -> Requested
-    ensures { (result ≡ requested_of s t h time (length frame.old)) × (frame.new ≡ frame_after (core_of s t h (delays_words fresh_exchange)) time frame.old) }
+pub fn request(unit: &UnitWords, frame: &mut [u8], time: u64) -> Requested
+    ensures { (result ≡ requested_of unit.now.settings unit.now.state unit.now.halves time (length frame.old))
+        × (frame.new ≡ frame_after (core_of unit.now.settings unit.now.state unit.now.halves (delays_words fresh_exchange)) time frame.old) }
 {
-    let room = frame.len();
-    let core = unit::told(s, t, h, DelaysWords::of(Exchange::fresh()));
-    match request_barred(core, time, room) {
-        Ruling::Barred(number) => Requested {
-            answer: AnswerWords::refusing(number.number()),
-            state: t,
-            halves: h,
+    let read = UnitWords {
+        delays: Exchange::fresh().into(),
+        ..*unit
+    };
+    match request_barred(Core::from(read), time, frame.len()) {
+        Err(refusal) => Requested {
+            answer: refusal.into(),
+            state: unit.state,
+            halves: unit.halves,
         },
-        Ruling::Clear => {
-            let m = wire_frames::request(s.domain, s.own(), t.sequence);
-            let none = [0u8; 1];
-            write_frame(m, &none[..0], frame);
-            asked(t, h, time)
+        Ok(()) => {
+            let m = wire_frames::request(
+                unit.settings.domain,
+                unit.settings.own(),
+                unit.state.sequence,
+            );
+            let _ = write_frame(m, &[], frame);
+            asked(unit.state, unit.halves, time)
         }
     }
 }

@@ -1,11 +1,9 @@
 // The exchange as C holds it, in two records: the halves with the last stamp, which most calls touch, and the delays.
 ghost use Rattle.std.specs.Prelude.{◌≡◌};
-ghost use Rattle.door_records.specs.Unit.{sync_in, sync_words, request_in, request_words, last_in, last_words, exchange_in, halves_words, delays_words};
+ghost use Rattle.door_records.specs.Unit.{sync_in, sync_words, request_in, request_words, last_in, last_words, halves_words, delays_words};
 
-use crate::flags::{flag, flag32};
 use crate::stamp::StampWords;
 use numbers::stamp::Stamp;
-use rules_delays::Delays;
 use rules_exchange::halves::{Request, Sync};
 use rules_exchange::{Exchange, Last};
 
@@ -60,142 +58,113 @@ pub struct DelaysWords {
     pub spare: u32,
 }
 
-impl SyncWords {
-    pub fn told(self) -> Sync
-        ensures { result ≡ sync_in self }
-    {
-        let t1 = self.t1;
-        let t2 = self.t2;
+impl From<SyncWords> for Sync {
+    ghost from_gives = { λ w s. s ≡ sync_in w };
+
+    fn from(w: SyncWords) -> Sync {
         Sync {
-            held: self.held != 0,
-            known: self.known != 0,
-            sequence: self.sequence,
-            t1: t1.told(),
-            t2: t2.told(),
-            correction: self.correction,
-            follow: self.follow,
+            held: w.held != 0,
+            known: w.known != 0,
+            sequence: w.sequence,
+            t1: w.t1.into(),
+            t2: w.t2.into(),
+            correction: w.correction,
+            follow: w.follow,
         }
     }
+}
 
-    pub fn of(s: Sync) -> SyncWords
-        ensures { result ≡ sync_words s }
-    {
-        let t1 = s.t1;
-        let t2 = s.t2;
+impl From<Sync> for SyncWords {
+    ghost from_gives = { λ s w. w ≡ sync_words s };
+
+    fn from(s: Sync) -> SyncWords {
         SyncWords {
-            t1: StampWords::of(t1),
-            t2: StampWords::of(t2),
+            t1: s.t1.into(),
+            t2: s.t2.into(),
             correction: s.correction,
             follow: s.follow,
             sequence: s.sequence,
-            held: flag(s.held),
-            known: flag(s.known),
+            held: s.held.into(),
+            known: s.known.into(),
             spare: 0,
         }
     }
 }
 
-impl RequestWords {
-    pub fn told(self) -> Request
-        ensures { result ≡ request_in self }
-    {
-        let t3 = self.t3;
+impl From<RequestWords> for Request {
+    ghost from_gives = { λ w q. q ≡ request_in w };
+
+    fn from(w: RequestWords) -> Request {
         Request {
-            pending: self.pending != 0,
-            given: self.given != 0,
-            sequence: self.sequence,
-            t3: t3.told(),
+            pending: w.pending != 0,
+            given: w.given != 0,
+            sequence: w.sequence,
+            t3: w.t3.into(),
         }
     }
+}
 
-    pub fn of(q: Request) -> RequestWords
-        ensures { result ≡ request_words q }
-    {
-        let t3 = q.t3;
+impl From<Request> for RequestWords {
+    ghost from_gives = { λ q w. w ≡ request_words q };
+
+    fn from(q: Request) -> RequestWords {
         RequestWords {
-            t3: StampWords::of(t3),
+            t3: q.t3.into(),
             sequence: q.sequence,
-            pending: flag(q.pending),
-            given: flag(q.given),
+            pending: q.pending.into(),
+            given: q.given.into(),
             spare: 0,
         }
     }
 }
 
-impl LastWords {
-    pub fn told(self) -> Last
-        ensures { result ≡ last_in self }
-    {
-        let stamp = Stamp {
-            seconds: self.seconds,
-            nanoseconds: self.nanoseconds,
-        };
+impl From<LastWords> for Last {
+    ghost from_gives = { λ w l. l ≡ last_in w };
+
+    fn from(w: LastWords) -> Last {
         Last {
-            taken: self.taken != 0,
-            stamp,
+            taken: w.taken != 0,
+            stamp: Stamp {
+                seconds: w.seconds,
+                nanoseconds: w.nanoseconds,
+            },
         }
     }
+}
 
-    pub fn of(l: Last) -> LastWords
-        ensures { result ≡ last_words l }
-    {
-        let stamp = l.stamp;
+impl From<Last> for LastWords {
+    ghost from_gives = { λ l w. w ≡ last_words l };
+
+    fn from(l: Last) -> LastWords {
         LastWords {
-            seconds: stamp.seconds,
-            nanoseconds: stamp.nanoseconds,
-            taken: flag32(l.taken),
+            seconds: l.stamp.seconds,
+            nanoseconds: l.stamp.nanoseconds,
+            taken: l.taken.into(),
         }
     }
 }
 
-// The exchange that the two records tell.
-pub fn told(h: HalvesWords, d: DelaysWords) -> Exchange
-    ensures { result ≡ exchange_in h d }
-{
-    let sync = h.sync;
-    let request = h.request;
-    let last = h.last;
-    let five = d.five;
-    let delays = Delays {
-        five,
-        count: d.count,
-        used: d.used,
-    };
-    Exchange {
-        sync: sync.told(),
-        request: request.told(),
-        last: last.told(),
-        delays,
-        huge: d.huge,
-        path: d.path,
-    }
-}
+impl From<Exchange> for HalvesWords {
+    ghost from_gives = { λ x w. w ≡ halves_words x };
 
-impl HalvesWords {
-    pub fn of(x: Exchange) -> HalvesWords
-        ensures { result ≡ halves_words x }
-    {
-        let sync = x.sync;
-        let request = x.request;
-        let last = x.last;
+    fn from(x: Exchange) -> HalvesWords {
         HalvesWords {
-            sync: SyncWords::of(sync),
-            request: RequestWords::of(request),
-            last: LastWords::of(last),
+            sync: x.sync.into(),
+            request: x.request.into(),
+            last: x.last.into(),
         }
     }
 }
 
-impl DelaysWords {
-    pub fn of(x: Exchange) -> DelaysWords
-        ensures { result ≡ delays_words x }
-    {
-        let delays = x.delays;
-        let five = delays.five;
+impl From<Exchange> for DelaysWords {
+    ghost from_gives = { λ x w. w ≡ delays_words x };
+
+    fn from(x: Exchange) -> DelaysWords {
+        let five = x.delays.five; // by itself: an array that is stored straight from a field gets no proof
         DelaysWords {
             five,
-            used: delays.used,
-            count: delays.count,
+            used: x.delays.used,
+            count: x.delays.count,
             huge: x.huge,
             path: x.path,
             gap: 0,

@@ -2,7 +2,6 @@
 #![tactic(auto)]
 
 pub mod exchange;
-pub mod flags;
 pub mod masters;
 pub mod stamp;
 pub mod unit;

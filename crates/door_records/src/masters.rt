@@ -50,40 +50,40 @@ pub struct MasterWords {
     pub held: u64,
 }
 
-impl HeaderWords {
-    pub fn told(self) -> Header
-        ensures { result ≡ header_in self }
-    {
-        let source = Port {
-            clock: self.clock,
-            number: self.number,
-        };
+impl From<HeaderWords> for Header {
+    ghost from_gives = { λ w h. h ≡ header_in w };
+
+    fn from(w: HeaderWords) -> Header {
         Header {
-            sdo: self.sdo,
-            minor: self.minor,
-            domain: self.domain,
-            minorsdo: self.minorsdo,
-            flags: self.flags,
-            correction: self.correction,
-            specific: self.specific,
-            source,
-            sequence: self.sequence,
-            control: self.control,
-            interval: self.interval,
+            sdo: w.sdo,
+            minor: w.minor,
+            domain: w.domain,
+            minorsdo: w.minorsdo,
+            flags: w.flags,
+            correction: w.correction,
+            specific: w.specific,
+            source: Port {
+                clock: w.clock,
+                number: w.number,
+            },
+            sequence: w.sequence,
+            control: w.control,
+            interval: w.interval,
         }
     }
+}
 
-    pub fn of(h: Header) -> HeaderWords
-        ensures { result ≡ header_words h }
-    {
-        let source = h.source;
+impl From<Header> for HeaderWords {
+    ghost from_gives = { λ h w. w ≡ header_words h };
+
+    fn from(h: Header) -> HeaderWords {
         HeaderWords {
             correction: h.correction,
-            clock: source.clock,
+            clock: h.source.clock,
             specific: h.specific,
             flags: h.flags,
             sequence: h.sequence,
-            number: source.number,
+            number: h.source.number,
             sdo: h.sdo,
             minor: h.minor,
             domain: h.domain,
@@ -94,27 +94,29 @@ impl HeaderWords {
     }
 }
 
-impl OfferWords {
-    pub fn told(self) -> Offer
-        ensures { result ≡ offer_in self }
-    {
+impl From<OfferWords> for Offer {
+    ghost from_gives = { λ w o. o ≡ offer_in w };
+
+    fn from(w: OfferWords) -> Offer {
         Offer {
-            utc: self.utc,
-            reserved: self.reserved,
-            priority1: self.priority1,
-            class: self.class,
-            accuracy: self.accuracy,
-            variance: self.variance,
-            priority2: self.priority2,
-            grandmaster: self.grandmaster,
-            steps: self.steps,
-            time: self.time,
+            utc: w.utc,
+            reserved: w.reserved,
+            priority1: w.priority1,
+            class: w.class,
+            accuracy: w.accuracy,
+            variance: w.variance,
+            priority2: w.priority2,
+            grandmaster: w.grandmaster,
+            steps: w.steps,
+            time: w.time,
         }
     }
+}
 
-    pub fn of(o: Offer) -> OfferWords
-        ensures { result ≡ offer_words o }
-    {
+impl From<Offer> for OfferWords {
+    ghost from_gives = { λ o w. w ≡ offer_words o };
+
+    fn from(o: Offer) -> OfferWords {
         OfferWords {
             grandmaster: o.grandmaster,
             utc: o.utc,
@@ -131,40 +133,34 @@ impl OfferWords {
     }
 }
 
-impl MasterWords {
-    pub fn told(self) -> Record
-        ensures { result ≡ record_in self }
-    {
-        let header = self.header;
-        let offer = self.offer;
-        let stamp = self.stamp;
-        let announce = Announce {
-            header: header.told(),
-            stamp: stamp.told(),
-            offer: offer.told(),
-        };
+impl From<MasterWords> for Record {
+    ghost from_gives = { λ w r. r ≡ record_in w };
+
+    fn from(w: MasterWords) -> Record {
         Record {
-            announce,
-            held: self.held,
-            newer: self.newer,
-            older: self.older,
+            announce: Announce {
+                header: w.header.into(),
+                stamp: w.stamp.into(),
+                offer: w.offer.into(),
+            },
+            held: w.held,
+            newer: w.newer,
+            older: w.older,
         }
     }
+}
 
-    pub fn of(m: Record) -> MasterWords
-        ensures { result ≡ master_words m }
-    {
-        let announce = m.announce;
-        let header = announce.header;
-        let offer = announce.offer;
-        let stamp = announce.stamp;
+impl From<Record> for MasterWords {
+    ghost from_gives = { λ r w. w ≡ master_words r };
+
+    fn from(r: Record) -> MasterWords {
         MasterWords {
-            header: HeaderWords::of(header),
-            offer: OfferWords::of(offer),
-            stamp: StampWords::of(stamp),
-            newer: m.newer,
-            older: m.older,
-            held: m.held,
+            header: r.announce.header.into(),
+            offer: r.announce.offer.into(),
+            stamp: r.announce.stamp.into(),
+            newer: r.newer,
+            older: r.older,
+            held: r.held,
         }
     }
 }

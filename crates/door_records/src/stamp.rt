@@ -12,19 +12,21 @@ pub struct StampWords {
     pub spare: u32,
 }
 
-impl StampWords {
-    pub fn told(self) -> Stamp
-        ensures { result ≡ stamp_in self }
-    {
+impl From<StampWords> for Stamp {
+    ghost from_gives = { λ w t. t ≡ stamp_in w };
+
+    fn from(w: StampWords) -> Stamp {
         Stamp {
-            seconds: self.seconds,
-            nanoseconds: self.nanoseconds,
+            seconds: w.seconds,
+            nanoseconds: w.nanoseconds,
         }
     }
+}
 
-    pub fn of(t: Stamp) -> StampWords
-        ensures { result ≡ stamp_words t }
-    {
+impl From<Stamp> for StampWords {
+    ghost from_gives = { λ t w. w ≡ stamp_words t };
+
+    fn from(t: Stamp) -> StampWords {
         StampWords {
             seconds: t.seconds,
             nanoseconds: t.nanoseconds,

@@ -1,10 +1,11 @@
 // The unit as C holds it: settings, state, halves and delays, each a record of its own. Servo, table and watch lie beside it.
 ghost use Rattle.std.specs.Prelude.{◌≡◌};
-ghost use Rattle.door_records.specs.Unit.{chosen_in, chosen_words, own_in, watch_in, settings_in, settings_words, core_of, core_in, state_words, unit_words};
+ghost use Rattle.door_records.specs.Unit.{chosen_in, chosen_words, own_in, watch_in, settings_in, settings_words, exchange_in, core_in, state_words, unit_words};
 
 use crate::exchange::{DelaysWords, HalvesWords};
-use crate::flags::{flag, flag16};
 use numbers::units::Ppb;
+use rules_delays::Delays;
+use rules_exchange::Exchange;
 use rules_masters::chosen::Chosen;
 use rules_settings::Settings;
 use rules_watch::settings::WatchSettings;
@@ -13,7 +14,7 @@ use unit_core::{Core, Domain};
 use wire_layout::message::Port;
 
 #[repr(C)]
-#[derive(Clone, Copy)]
+#[derive(Clone, Copy, Default)]
 pub struct ChosenWords {
     pub clock: u64,
     pub number: u16,
@@ -62,28 +63,28 @@ pub struct UnitWords {
     pub delays: DelaysWords,
 }
 
-impl ChosenWords {
-    pub fn told(self) -> Chosen
-        ensures { result ≡ chosen_in self }
-    {
-        let sender = Port {
-            clock: self.clock,
-            number: self.number,
-        };
+impl From<ChosenWords> for Chosen {
+    ghost from_gives = { λ w c. c ≡ chosen_in w };
+
+    fn from(w: ChosenWords) -> Chosen {
         Chosen {
-            some: self.some != 0,
-            sender,
+            some: w.some != 0,
+            sender: Port {
+                clock: w.clock,
+                number: w.number,
+            },
         }
     }
+}
 
-    pub fn of(c: Chosen) -> ChosenWords
-        ensures { result ≡ chosen_words c }
-    {
-        let sender = c.sender;
+impl From<Chosen> for ChosenWords {
+    ghost from_gives = { λ c w. w ≡ chosen_words c };
+
+    fn from(c: Chosen) -> ChosenWords {
         ChosenWords {
-            clock: sender.clock,
-            number: sender.number,
-            some: flag16(c.some),
+            clock: c.sender.clock,
+            number: c.sender.number,
+            some: c.some.into(),
             spare: 0,
         }
     }
@@ -91,6 +92,7 @@ impl ChosenWords {
 
 impl SettingsWords {
     // The own port.
+    // A method and no From, as `watch` and `exchange` are: each reads a part of the record, and its name says which.
     pub fn own(self) -> Port
         ensures { result ≡ own_in self }
     {
@@ -113,115 +115,116 @@ impl SettingsWords {
             jump: self.jump,
         }
     }
+}
 
-    pub fn told(self) -> Settings
-        ensures { result ≡ settings_in self }
-    {
-        let limit = self.limit;
+impl From<SettingsWords> for Settings {
+    ghost from_gives = { λ w s. s ≡ settings_in w };
+
+    fn from(w: SettingsWords) -> Settings {
         Settings {
-            domain: self.domain,
-            own: self.own(),
-            announce: self.announce,
-            sync: self.sync,
-            kp: self.kp,
-            ki: self.ki,
-            limit,
-            watch: self.watch(),
+            domain: w.domain,
+            own: w.own(),
+            announce: w.announce,
+            sync: w.sync,
+            kp: w.kp,
+            ki: w.ki,
+            limit: w.limit,
+            watch: w.watch(),
         }
     }
+}
 
-    pub fn of(s: Settings) -> SettingsWords
-        ensures { result ≡ settings_words s }
-    {
-        let own = s.own;
-        let limit = s.limit;
-        let watch = s.watch;
+impl From<Settings> for SettingsWords {
+    ghost from_gives = { λ s w. w ≡ settings_words s };
+
+    fn from(s: Settings) -> SettingsWords {
         SettingsWords {
-            clock: own.clock,
-            limit,
-            tolerance: watch.tolerance,
-            spike: watch.spike,
-            jump: watch.jump,
+            clock: s.own.clock,
+            limit: s.limit,
+            tolerance: s.watch.tolerance,
+            spike: s.watch.spike,
+            jump: s.watch.jump,
             kp: s.kp,
             ki: s.ki,
-            number: own.number,
+            number: s.own.number,
             domain: s.domain,
             announce: s.announce,
             sync: s.sync,
-            window: watch.window,
-            minimum: watch.minimum,
-            holdoff: watch.holdoff,
+            window: s.watch.window,
+            minimum: s.watch.minimum,
+            holdoff: s.watch.holdoff,
             spare: 0,
         }
     }
 }
 
-// The core that the four records tell, for who has them apart.
-pub fn told(g: SettingsWords, s: StateWords, h: HalvesWords, d: DelaysWords) -> Core
-    ensures { result ≡ core_of g s h d }
-{
-    let chosen = s.chosen;
-    let run = Run {
-        exchange: crate::exchange::told(h, d),
-        measured: s.measured != 0,
-        at: s.at,
-    };
-    let domain = Domain {
-        chosen: chosen.told(),
-        run,
-        wipes: s.wipes,
-        faulty: s.faulty != 0,
-        sequence: s.sequence,
-    };
-    Core {
-        settings: g.told(),
-        now: s.now,
-        domain,
-    }
-}
+impl From<Core> for StateWords {
+    ghost from_gives = { λ c w. w ≡ state_words c };
 
-impl StateWords {
-    pub fn of(c: Core) -> StateWords
-        ensures { result ≡ state_words c }
-    {
-        let domain = c.domain;
-        let chosen = domain.chosen;
-        let run = domain.run;
+    fn from(c: Core) -> StateWords {
         StateWords {
             now: c.now,
-            at: run.at,
-            chosen: ChosenWords::of(chosen),
-            wipes: domain.wipes,
-            sequence: domain.sequence,
-            measured: flag(run.measured),
-            faulty: flag(domain.faulty),
+            at: c.domain.run.at,
+            chosen: c.domain.chosen.into(),
+            wipes: c.domain.wipes,
+            sequence: c.domain.sequence,
+            measured: c.domain.run.measured.into(),
+            faulty: c.domain.faulty.into(),
         }
     }
 }
 
 impl UnitWords {
-    pub fn told(self) -> Core
-        ensures { result ≡ core_in self }
+    // The exchange, which two of the records tell.
+    pub fn exchange(&self) -> Exchange
+        ensures { result ≡ exchange_in self.now.halves self.now.delays }
     {
-        let settings = self.settings;
-        let state = self.state;
-        let halves = self.halves;
-        let delays = self.delays;
-        told(settings, state, halves, delays)
+        Exchange {
+            sync: self.halves.sync.into(),
+            request: self.halves.request.into(),
+            last: self.halves.last.into(),
+            delays: Delays {
+                five: self.delays.five,
+                count: self.delays.count,
+                used: self.delays.used,
+            },
+            huge: self.delays.huge,
+            path: self.delays.path,
+        }
     }
+}
 
-    pub fn of(c: Core) -> UnitWords
-        ensures { result ≡ unit_words c }
-    {
-        let settings = c.settings;
-        let domain = c.domain;
-        let run = domain.run;
-        let exchange = run.exchange;
+impl From<UnitWords> for Core {
+    ghost from_gives = { λ w c. c ≡ core_in w };
+
+    fn from(w: UnitWords) -> Core {
+        Core {
+            settings: w.settings.into(),
+            now: w.state.now,
+            domain: Domain {
+                chosen: w.state.chosen.into(),
+                run: Run {
+                    exchange: w.exchange(),
+                    measured: w.state.measured != 0,
+                    at: w.state.at,
+                },
+                wipes: w.state.wipes,
+                faulty: w.state.faulty != 0,
+                sequence: w.state.sequence,
+            },
+        }
+    }
+}
+
+impl From<Core> for UnitWords {
+    ghost from_gives = { λ c w. w ≡ unit_words c };
+
+    fn from(c: Core) -> UnitWords {
         UnitWords {
-            settings: SettingsWords::of(settings),
-            state: StateWords::of(c),
-            halves: HalvesWords::of(exchange),
-            delays: DelaysWords::of(exchange),
+            settings: c.settings.into(),
+            state: c.into(),
+            halves: c.domain.run.exchange.into(),
+            delays: c.domain.run.exchange.into(),
         }
     }
 }

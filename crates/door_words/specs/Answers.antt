@@ -1,5 +1,5 @@
 -- The answers as numbers: for each case of the answer its code, the number of a refusal, and the values that it carries. All else is 0.
-use Rattle.std.specs.Prelude.{ℕ, false, cond, pos}
+use Rattle.std.specs.Prelude.{ℕ, false, cond, pos, Ok, Err}
 use Rattle.std.specs.Float.{fin}
 use Rattle.numbers.specs.Orders.{number_of}
 use Rattle.numbers.specs.declared.units.Nanoseconds.{Nanoseconds}
@@ -15,8 +15,7 @@ use Rattle.rules_servo.specs.declared.shown.Shown.{Shown}
 use Rattle.rules_servo.specs.declared.shown.Shown.TheVariants.{Holdover, Tracking, Adjusting}
 use Rattle.rules_watch.specs.Rules.{code_of as pulse_code}
 use Rattle.rules_watch.specs.declared.totals.Line.{Line as DriftLine}
-use Rattle.rules_watch.specs.declared.Drift.{Drift}
-use Rattle.rules_watch.specs.declared.Drift.TheVariants as drift
+use Rattle.rules_watch.specs.Rules.{Drift}
 use Rattle.unit_core.specs.declared.calls.PortState.{PortState}
 use Rattle.unit_core.specs.declared.calls.PortState.TheVariants.{Faulty, Listening, Uncalibrated, Slave}
 use Rattle.unit_core.specs.declared.calls.Shows.{Shows as Showing}
@@ -79,8 +78,8 @@ exchanging s x = spoken (code_of s) (sequence_in s) (found_in s) (cond (steers_o
 
 -- the line, with the wipe count
 abbrev pub drift_words : Drift → ℕ → AnswerWords
-drift_words (drift.Refused r) n = refusing (number_of r)
-drift_words (drift.Line l) n = lining l n
+drift_words (Err r) n = refusing (number_of r)
+drift_words (Ok l) n = lining l n
 
 abbrev pub answer_words : Answer → AnswerWords
 answer_words (Refused r) = refusing (number_of r)

@@ -1,5 +1,5 @@
 -- A message as numbers, and the message that such numbers mean.
-use Rattle.std.specs.Prelude.{cond, List, ℕ, eqb, length}
+use Rattle.std.specs.Prelude.{cond, List, ℕ, eqb, length, Ok, Err, Result}
 use Rattle.numbers.specs.declared.stamp.Stamp.{Stamp}
 use Rattle.numbers.specs.Stamps.{no_stamp}
 use Rattle.numbers.specs.declared.refusal.Refusal.TheVariants.{Kind}
@@ -11,17 +11,18 @@ use Rattle.wire_layout.specs.declared.message.Part.{Part}
 use Rattle.wire_layout.specs.declared.message.Body.{Body}
 use Rattle.wire_layout.specs.declared.message.Body.TheVariants.{Sync, DelayReq, FollowUp, DelayResp, Announce}
 use Rattle.wire_layout.specs.declared.message.Message.{Message}
-use Rattle.wire_layout.specs.declared.message.Read.{Read}
-use Rattle.wire_layout.specs.declared.message.Read.TheVariants as reads
-use Rattle.wire_layout.specs.declared.message.Written.{Written}
-use Rattle.wire_layout.specs.declared.message.Written.TheVariants as writes
+use Rattle.wire_layout.specs.Reading.{Read}
+use Rattle.wire_layout.specs.Writing.{Written}
 use Rattle.wire_layout.specs.Kinds.{kind_of, stamp_in}
 use Rattle.wire_layout.specs.Writing.{write_of, left_by}
 use Rattle.rules_masters.specs.Records.{no_header, no_offer}
 use Rattle.door_words.specs.declared.messages.MessageWords.{MessageWords}
 use Rattle.door_words.specs.declared.messages.WrittenWords.{WrittenWords}
-use Rattle.door_words.specs.declared.messages.Handed.{Handed}
-use Rattle.door_words.specs.declared.messages.Handed.TheVariants.{Got, Barred}
+use Rattle.numbers.specs.declared.refusal.Refusal.{Refusal}
+
+-- the message that words mean, or why they mean none
+abbrev pub Handed : Type 0
+Handed = Result Message Refusal
 
 -- ---- to numbers
 abbrev pub no_port : Port
@@ -58,12 +59,12 @@ got_words m p =
     }
 
 abbrev pub read_words : Read → MessageWords
-read_words (reads.Got m p) = got_words m p
-read_words (reads.Refused r) = refused_words (number_of r)
+read_words (Ok (m, p)) = got_words m p
+read_words (Err r) = refused_words (number_of r)
 
 -- ---- and back
 abbrev pub with : Header → Body → Handed
-with h b = Got (record { header = h; body = b })
+with h b = Ok (record { header = h; body = b })
 
 -- the five kinds of rule 2.5; any other is KIND (rule 3.3)
 unfoldable pub by_kind : ℕ → Header → Stamp → Port → Offer → Handed
@@ -71,22 +72,26 @@ by_kind k h t p o =
     cond (eqb k 0) (with h (Sync t))
     (cond (eqb k 1) (with h (DelayReq t))
     (cond (eqb k 8) (with h (FollowUp t))
-    (cond (eqb k 9) (with h (DelayResp t p)) (cond (eqb k 11) (with h (Announce t o)) (Barred Kind)))))
+    (cond (eqb k 9) (with h (DelayResp t p)) (cond (eqb k 11) (with h (Announce t o)) (Err Kind)))))
 
 -- what was refused in reading is no message, whatever number is there
 unfoldable pub message_by : MessageWords → Handed
-message_by w = cond (eqb w.refused 0) (by_kind w.kind w.header w.stamp w.requester w.offer) (Barred Kind)
+message_by w = cond (eqb w.refused 0) (by_kind w.kind w.header w.stamp w.requester w.offer) (Err Kind)
 
 -- ---- writing
 abbrev pub written_words : Written → WrittenWords
-written_words (writes.Wrote n) = record { refused = 0; length = n }
-written_words (writes.Barred r) = record { refused = number_of r; length = 0 }
+written_words (Ok n) = record { refused = 0; length = n }
+written_words (Err r) = record { refused = number_of r; length = 0 }
+
+-- the writing, once the message is known
+abbrev pub put_by : Handed → List ℕ → ℕ → Written
+put_by (Ok m) suffix room = write_of m suffix room
+put_by (Err r) suffix room = Err r
 
 abbrev pub written_by : Handed → List ℕ → ℕ → WrittenWords
-written_by (Got m) suffix room = written_words (write_of m suffix room)
-written_by (Barred r) suffix room = record { refused = number_of r; length = 0 }
+written_by h suffix room = written_words (put_by h suffix room)
 
 -- rule 3.51: a refusal is its number, and all stays as it was
 abbrev pub left_words : Handed → List ℕ → List ℕ → List ℕ
-left_words (Got m) suffix part = left_by (write_of m suffix (length part)) m suffix part
-left_words (Barred r) suffix part = part
+left_words (Ok m) suffix part = left_by (write_of m suffix (length part)) m suffix part
+left_words (Err r) suffix part = part

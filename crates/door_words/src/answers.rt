@@ -1,20 +1,22 @@
 // An answer of the unit as numbers. What a code does not carry is 0.
 ghost use Rattle.std.specs.Prelude.{◌≡◌};
 ghost use Rattle.numbers.specs.Orders.{number_of};
-ghost use Rattle.door_words.specs.Answers.{port_code, servo_code, no_line, plain, refusing, naming, spoken, lining, showing, choosing, drift_words};
+ghost use Rattle.rules_watch.specs.Rules.{code_of};
+ghost use Rattle.door_words.specs.Answers.{plain, refusing, spoken, lining, showing, choosing, exchanging};
 
 use door_records::unit::ChosenWords;
+use numbers::refusal::Refusal;
 use numbers::units::{Nanoseconds, Ppb};
 use rules_exchange::Accepted;
-use rules_masters::chosen::{Chosen, Decision};
-use rules_servo::shown::Shown;
-use rules_watch::Drift;
+use rules_exchange::said::Said;
+use rules_masters::chosen::Decision;
+use rules_watch::Pulse;
 use rules_watch::totals::Line;
-use unit_core::calls::{PortState, Shows};
+use unit_core::calls::Shows;
 
 // 104 octets, none of them unnamed.
 #[repr(C)]
-#[derive(Clone, Copy)]
+#[derive(Clone, Copy, Default)]
 pub struct AnswerWords {
     pub code: u8, // of the answer, as specs/Answers.antt and what it cites list them
     pub refused: u8, // the refusal's number: rule 3.N
@@ -32,39 +34,6 @@ pub struct AnswerWords {
     pub line: Line,
 }
 
-fn no_line() -> Line
-    ensures { result ≡ no_line }
-{
-    Line {
-        level: 0,
-        slope: 0,
-        over: 0,
-        n: 0,
-        ppm: 0.0,
-    }
-}
-
-fn port_code(port: PortState) -> u8
-    ensures { result ≡ port_code port }
-{
-    match port {
-        PortState::Faulty => 0,
-        PortState::Listening => 1,
-        PortState::Uncalibrated => 2,
-        PortState::Slave => 3,
-    }
-}
-
-fn servo_code(servo: Shown) -> u8
-    ensures { result ≡ servo_code servo }
-{
-    match servo {
-        Shown::Holdover => 0,
-        Shown::Tracking => 1,
-        Shown::Adjusting => 2,
-    }
-}
-
 impl AnswerWords {
     // The code alone.
     pub fn plain(code: u8) -> AnswerWords
@@ -72,96 +41,94 @@ impl AnswerWords {
     {
         AnswerWords {
             code,
-            refused: 0,
-            port: 0,
-            servo: 0,
-            output: Ppb(0),
-            wipes: 0,
-            sequence: 0,
-            spare: 0,
-            now: 0,
-            master: ChosenWords::of(Chosen::fresh()),
-            delay: Nanoseconds(0),
-            used: Nanoseconds(0),
-            offset: Nanoseconds(0),
-            line: no_line(),
+            ..AnswerWords::default()
         }
     }
 
+    // The number of a refusal alone.
     pub fn refusing(number: u8) -> AnswerWords
         ensures { result ≡ refusing number }
     {
-        let mut words = AnswerWords::plain(0);
-        words.refused = number;
-        words
-    }
-
-    fn naming(code: u8, master: Chosen) -> AnswerWords
-        ensures { result ≡ naming code master }
-    {
-        let mut words = AnswerWords::plain(code);
-        words.master = ChosenWords::of(master);
-        words
-    }
-
-    // Of the choice.
-    pub fn choosing(decision: Decision) -> AnswerWords
-        ensures { result ≡ choosing decision }
-    {
-        AnswerWords::naming(decision.code(), decision.master())
-    }
-
-    // Of the exchange: its code, and what that carries.
-    pub fn spoken(code: u8, sequence: u16, found: Accepted, output: Ppb) -> AnswerWords
-        ensures { result ≡ spoken code sequence found output }
-    {
-        let delay = found.delay;
-        let used = found.used;
-        let offset = found.offset;
-        let mut words = AnswerWords::plain(code);
-        words.sequence = sequence;
-        words.output = output;
-        words.delay = delay;
-        words.used = used;
-        words.offset = offset;
-        words
-    }
-
-    fn lining(line: Line, wipes: u32) -> AnswerWords
-        ensures { result ≡ lining line wipes }
-    {
-        let mut words = AnswerWords::plain(22);
-        words.line = line;
-        words.wipes = wipes;
-        words
-    }
-
-    // Of the line, with the wipe count.
-    pub fn drifting(drift: Drift, wipes: u32) -> AnswerWords
-        ensures { result ≡ drift_words drift wipes }
-    {
-        match drift {
-            Drift::Refused(number) => AnswerWords::refusing(number.number()),
-            Drift::Line(line) => AnswerWords::lining(line, wipes),
+        AnswerWords {
+            refused: number,
+            ..AnswerWords::plain(0)
         }
     }
 
-    // Of what the unit shows.
-    pub fn showing(s: Shows) -> AnswerWords
-        ensures { result ≡ showing s }
+    // The code, and what an answer of the exchange carries.
+    pub fn spoken(code: u8, sequence: u16, found: Accepted, output: Ppb) -> AnswerWords
+        ensures { result ≡ spoken code sequence found output }
     {
-        let port = s.port;
-        let servo = s.servo;
-        let output = s.output;
-        let master = s.master;
-        let mut words = AnswerWords::plain(23);
-        words.port = port_code(port);
-        words.servo = servo_code(servo);
-        words.output = output;
-        words.now = s.now;
-        words.master = ChosenWords::of(master);
-        words.wipes = s.wipes;
-        words.sequence = s.sequence;
-        words
+        AnswerWords {
+            output,
+            sequence,
+            delay: found.delay,
+            used: found.used,
+            offset: found.offset,
+            ..AnswerWords::plain(code)
+        }
+    }
+
+    // Of the exchange. A measurement alone comes with the output.
+    pub fn exchanging(said: Said, output: Ppb) -> AnswerWords
+        ensures { result ≡ exchanging said output }
+    {
+        let output = if said.steers() { output } else { Ppb(0) };
+        AnswerWords::spoken(said.code(), said.sequence(), said.found(), output)
+    }
+
+    // Of the line, with the wipe count.
+    pub fn lining(line: Line, wipes: u32) -> AnswerWords
+        ensures { result ≡ lining line wipes }
+    {
+        AnswerWords {
+            wipes,
+            line,
+            ..AnswerWords::plain(22)
+        }
+    }
+}
+
+impl From<Refusal> for AnswerWords {
+    ghost from_gives = { λ r w. w ≡ refusing (number_of r) };
+
+    fn from(refusal: Refusal) -> AnswerWords {
+        AnswerWords::refusing(refusal.number())
+    }
+}
+
+impl From<Decision> for AnswerWords {
+    ghost from_gives = { λ d w. w ≡ choosing d };
+
+    fn from(decision: Decision) -> AnswerWords {
+        AnswerWords {
+            master: decision.master().into(),
+            ..AnswerWords::plain(decision.code())
+        }
+    }
+}
+
+impl From<Pulse> for AnswerWords {
+    ghost from_gives = { λ p w. w ≡ plain (code_of p) };
+
+    fn from(pulse: Pulse) -> AnswerWords {
+        AnswerWords::plain(pulse.code())
+    }
+}
+
+impl From<Shows> for AnswerWords {
+    ghost from_gives = { λ s w. w ≡ showing s };
+
+    fn from(s: Shows) -> AnswerWords {
+        AnswerWords {
+            port: s.port as u8,
+            servo: s.servo as u8,
+            output: s.output,
+            wipes: s.wipes,
+            sequence: s.sequence,
+            now: s.now,
+            master: s.master.into(),
+            ..AnswerWords::plain(23)
+        }
     }
 }

@@ -1,22 +1,19 @@
 // A message as numbers: read from octets, and written to them.
-ghost use Rattle.std.specs.Prelude.{◌≡◌, length};
-ghost use Rattle.numbers.specs.declared.ruling.Ruling.TheVariants.{Clear};
+ghost use Rattle.std.specs.Prelude.{◌≡◌, length, Ok};
 ghost use Rattle.numbers.specs.Grounds.{first_of};
+ghost use Rattle.numbers.specs.Orders.{number_of};
 ghost use Rattle.wire_layout.specs.Positions.{message_of};
 ghost use Rattle.wire_layout.specs.Reading.{reading_grounds, suffix_at, read_of};
-ghost use Rattle.rules_masters.specs.Records.{no_offer};
-ghost use Rattle.door_words.specs.Messages.{no_port, refused_words, offer_in, got_words, read_words, by_kind, message_by, written_by, left_words};
+ghost use Rattle.door_words.specs.Messages.{refused_words, offer_in, got_words, read_words, by_kind, message_by, put_by, written_words, written_by, left_words};
 
 use numbers::refusal::Refusal;
-use numbers::ruling::Ruling;
 use numbers::stamp::Stamp;
-use rules_masters::record::Record;
 use wire_layout::kinds;
-use wire_layout::message::{Body, Header, Message, Offer, Port, Written};
+use wire_layout::message::{Body, Header, Message, Offer, Port};
 use wire_octets::u16_at;
 
 #[repr(C)]
-#[derive(Clone, Copy)]
+#[derive(Clone, Copy, Default)]
 pub struct MessageWords {
     pub refused: u8, // 0, or the number of the refusal: then all else is 0
     pub kind: u8,
@@ -28,13 +25,6 @@ pub struct MessageWords {
     pub to: usize, // .. and ends
 }
 
-// The message that the words mean, or why they mean none.
-#[derive(Clone, Copy)]
-pub enum Handed {
-    Got(Message),
-    Barred(Refusal),
-}
-
 #[repr(C)]
 #[derive(Clone, Copy)]
 pub struct WrittenWords {
@@ -42,60 +32,46 @@ pub struct WrittenWords {
     pub length: usize, // of the message
 }
 
-fn nobody() -> Port
-    ensures { result ≡ no_port }
-{
-    Port {
-        clock: 0,
-        number: 0,
-    }
-}
-
-fn no_offer() -> Offer
-    ensures { result ≡ no_offer }
-{
-    let empty = Record::fresh();
-    let none = empty.announce;
-    none.offer
-}
-
 pub fn offer_in(body: Body) -> Offer
     ensures { result ≡ offer_in body }
 {
     match body {
-        Body::Sync(_) => no_offer(),
-        Body::DelayReq(_) => no_offer(),
-        Body::FollowUp(_) => no_offer(),
-        Body::DelayResp(_, _) => no_offer(),
         Body::Announce(_, offer) => offer,
+        _ => Offer::default(),
+    }
+}
+
+impl From<Refusal> for MessageWords {
+    ghost from_gives = { λ r w. w ≡ refused_words (number_of r) };
+
+    fn from(refusal: Refusal) -> MessageWords {
+        MessageWords {
+            refused: refusal.number(),
+            ..MessageWords::default()
+        }
+    }
+}
+
+impl From<Result<usize, Refusal>> for WrittenWords {
+    ghost from_gives = { λ r w. w ≡ written_words r };
+
+    fn from(written: Result<usize, Refusal>) -> WrittenWords {
+        match written {
+            Ok(length) => WrittenWords { refused: 0, length },
+            Err(refusal) => WrittenWords {
+                refused: refusal.number(),
+                length: 0,
+            },
+        }
     }
 }
 
 impl MessageWords {
-    fn refusing(number: u8) -> MessageWords
-        ensures { result ≡ refused_words number }
-    {
-        let empty = Record::fresh();
-        let none = empty.announce;
-        let header = none.header;
-        let stamp = none.stamp;
-        let offer = none.offer;
-        MessageWords {
-            refused: number,
-            kind: 0,
-            header,
-            stamp,
-            requester: nobody(),
-            offer,
-            from: 0,
-            to: 0,
-        }
-    }
-
-    // The words of octets that nothing bars, each field from where it lies. Each case returns by itself: where they met, the compiler read numbers
-    // octet by octet (docs/DECISIONS.md).
+    // The words of octets that nothing bars, each field from where it lies.
+    // Each case returns by itself, with all of its fields: where they meet (a match, or ..words), the compiler reads numbers octet by octet, and reading
+    // an Announce misses its bar of 176 instructions (docs/COST.md).
     fn got(s: &[u8]) -> MessageWords
-        requires { first_of (reading_grounds s.now) ≡ Clear }
+        requires { first_of (reading_grounds s.now) ≡ Ok tt }
         ensures { result ≡ got_words (message_of s.now) (suffix_at s.now) }
     {
         let stamp = wire_reader::stamp_at(s, 34);
@@ -109,7 +85,7 @@ impl MessageWords {
                 header,
                 stamp,
                 requester: wire_reader::port_at(s, 44),
-                offer: no_offer(),
+                offer: Offer::default(),
                 from: kinds::DelayResp::LENGTH,
                 to,
             };
@@ -120,7 +96,7 @@ impl MessageWords {
                 kind,
                 header,
                 stamp,
-                requester: nobody(),
+                requester: Port::default(),
                 offer: wire_reader::offer_of(s),
                 from: kinds::Announce::LENGTH,
                 to,
@@ -131,8 +107,8 @@ impl MessageWords {
             kind,
             header,
             stamp,
-            requester: nobody(),
-            offer: no_offer(),
+            requester: Port::default(),
+            offer: Offer::default(),
             from: kinds::Sync::LENGTH,
             to,
         }
@@ -143,62 +119,36 @@ impl MessageWords {
         ensures { result ≡ read_words (read_of octets.now) }
     {
         match wire_reader::barred(octets) {
-            Ruling::Barred(refusal) => MessageWords::refusing(refusal.number()),
-            Ruling::Clear => MessageWords::got(octets),
+            Err(refusal) => refusal.into(),
+            Ok(()) => MessageWords::got(octets),
         }
     }
 
     // The message of its kind: one that is in no table is KIND.
     #[tactic(auto, unfolding(crate::specs::Messages::by_kind))]
-    fn kinded(self) -> Handed
+    fn kinded(self) -> Result<Message, Refusal>
         ensures { result ≡ by_kind self.kind self.header self.stamp self.requester self.offer }
     {
-        let header = self.header;
-        let stamp = self.stamp;
-        if self.kind == kinds::Sync::KIND {
-            return Handed::Got(Message {
-                header,
-                body: Body::Sync(stamp),
-            });
-        }
-        if self.kind == kinds::DelayReq::KIND {
-            return Handed::Got(Message {
-                header,
-                body: Body::DelayReq(stamp),
-            });
-        }
-        if self.kind == kinds::FollowUp::KIND {
-            return Handed::Got(Message {
-                header,
-                body: Body::FollowUp(stamp),
-            });
-        }
-        if self.kind == kinds::DelayResp::KIND {
-            let requester = self.requester;
-            return Handed::Got(Message {
-                header,
-                body: Body::DelayResp(stamp, requester),
-            });
-        }
-        if self.kind == kinds::Announce::KIND {
-            let offer = self.offer;
-            return Handed::Got(Message {
-                header,
-                body: Body::Announce(stamp, offer),
-            });
-        }
-        Handed::Barred(Refusal::Kind)
+        let body = match self.kind {
+            kinds::Sync::KIND => Body::Sync(self.stamp),
+            kinds::DelayReq::KIND => Body::DelayReq(self.stamp),
+            kinds::FollowUp::KIND => Body::FollowUp(self.stamp),
+            kinds::DelayResp::KIND => Body::DelayResp(self.stamp, self.requester),
+            kinds::Announce::KIND => Body::Announce(self.stamp, self.offer),
+            _ => return Err(Refusal::Kind),
+        };
+        Ok(Message {
+            header: self.header,
+            body,
+        })
     }
 
-    // The message again. One that was refused in reading is none, of whatever number: what C puts there may be in no table.
-    #[tactic(auto, unfolding(crate::specs::Messages::message_by))]
-    pub fn message(self) -> Handed
-        ensures { result ≡ message_by self }
+    // The length of the message that was written.
+    fn put(self, suffix: &[u8], part: &mut [u8]) -> Result<usize, Refusal>
+        ensures value { result ≡ put_by (message_by self) suffix.now (length part.old) }
+        ensures part_after { part.new ≡ left_words (message_by self) suffix.now part.old }
     {
-        if self.refused == 0 {
-            return self.kinded();
-        }
-        Handed::Barred(Refusal::Kind)
+        wire_writer::write(Message::try_from(self)?, suffix, part)
     }
 
     // Writes the message into the lent part.
@@ -206,18 +156,21 @@ impl MessageWords {
         ensures value { result ≡ written_by (message_by self) suffix.now (length part.old) }
         ensures part_after { part.new ≡ left_words (message_by self) suffix.now part.old }
     {
-        match self.message() {
-            Handed::Barred(refusal) => WrittenWords {
-                refused: refusal.number(),
-                length: 0,
-            },
-            Handed::Got(m) => match wire_writer::write(m, suffix, part) {
-                Written::Wrote(length) => WrittenWords { refused: 0, length },
-                Written::Barred(number) => WrittenWords {
-                    refused: number.number(),
-                    length: 0,
-                },
-            },
+        self.put(suffix, part).into()
+    }
+}
+
+// The message again. One that was refused in reading is none, of whatever number: what C puts there may be in no table.
+impl TryFrom<MessageWords> for Message {
+    type Error = Refusal;
+
+    ghost try_from_gives = { λ w r. r ≡ message_by w };
+
+    #[tactic(auto, unfolding(crate::specs::Messages::message_by))]
+    fn try_from(w: MessageWords) -> Result<Message, Refusal> {
+        if w.refused == 0 {
+            return w.kinded();
         }
+        Err(Refusal::Kind)
     }
 }

@@ -1,5 +1,5 @@
 -- The median: the middle one by size, the lower of the middle two where the count is even (rule 7.22).
-use Rattle.std.specs.Prelude.{Bool, false, cond, List, [], ◌∷◌, ℕ, suc, ◌-◌, ◌/◌, leb, ltb, length}
+use Rattle.std.specs.Prelude.{Bool, cond, ◌&&◌, List, [], ◌∷◌, ℕ, suc, ◌-◌, ◌/◌, leb, ltb, length}
 
 -- how many are below x
 unfoldable pub count_below : ℕ → List ℕ → ℕ
@@ -12,7 +12,7 @@ middle n = (n - 1) / 2
 
 -- x is the lower middle of l: at most so many are smaller, and more are smaller or equal
 unfoldable pub middling : List ℕ → ℕ → Bool
-middling l x = cond (leb (count_below x l) (middle (length l))) (ltb (middle (length l)) (count_below (suc x) l)) false
+middling l x = leb (count_below x l) (middle (length l)) && ltb (middle (length l)) (count_below (suc x) l)
 
 -- the first that is so, of those that are left to look at
 unfoldable pub first_middling : List ℕ → List ℕ → ℕ

@@ -11,7 +11,7 @@ use Rattle.numbers.specs.declared.refusal.Refusal.TheVariants.{Correction, Unmat
 use Rattle.rules_exchange.specs.declared.Exchange.{Exchange}
 use Rattle.rules_exchange.specs.declared.said.Said.{Said}
 use Rattle.rules_exchange.specs.declared.said.Said.TheVariants.{Held, Paired, Asked, Stamped, Back, Neg, Long, Huge, HugeFaulty, Path, PathWiped, Step}
-use Rattle.rules_exchange.specs.declared.Answered.{Answered}
+use Rattle.rules_exchange.specs.Events.{Answered}
 use Rattle.rules_measure.specs.declared.Sum.{Sum}
 use Rattle.rules_measure.specs.declared.Sum.TheVariants.{Delay, Neg as SumNeg, Long as SumLong}
 use Rattle.rules_delays.specs.Delays.{path_of, used_of}

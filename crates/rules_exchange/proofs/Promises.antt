@@ -1,4 +1,5 @@
 -- What the exchange promises of every event in every state. That each gets an answer, and only one, is said by `told`: it is a function.
+use Rattle.std.specs.Prelude.{Ok, Err}
 use mathlib.Core.Path.{◌≡◌, refl, ap, ◌∙◌, subst}
 use mathlib.Core.Bool.{Bool, true, false, cond}
 use mathlib.Core.Option.{Option, none, some}
@@ -12,9 +13,8 @@ use Rattle.numbers.proofs.Signs.{abs-within}
 use Rattle.wire_layout.specs.declared.message.Port.{Port}
 use Rattle.rules_exchange.specs.declared.Exchange.{Exchange}
 use Rattle.rules_exchange.specs.declared.Accepted.{Accepted}
-use Rattle.rules_exchange.specs.declared.Answer.{Answer}
-use Rattle.rules_exchange.specs.declared.Answer.TheVariants.{Refused, Says}
-use Rattle.rules_exchange.specs.declared.Answered.{Answered}
+use Rattle.rules_exchange.specs.Events.{Answer}
+use Rattle.rules_exchange.specs.Events.{Answered}
 use Rattle.rules_exchange.specs.declared.said.Said.{Said}
 use Rattle.rules_exchange.specs.declared.said.Said.TheVariants.{Held, Paired, Asked, Stamped, Back, Neg, Long, Huge, HugeFaulty, Path, PathWiped, Step, Measured}
 use Rattle.rules_exchange.specs.Halves.{SyncHalf, no_sync, awaits, knows, RequestHalf, no_request, asked, stamped, sync_half, request_half, as_sync, as_request, fresh_sync, fresh_request}
@@ -64,8 +64,8 @@ AfterSaid x (Step o) y = Spent y × Same x y × Rows y x.huge x.path
 AfterSaid x (Measured m) y = Range m × Spent y × Rows y 0 0
 
 abbrev pub After : Exchange → Answer → Exchange → Type 0
-After x (Refused n) y = y ≡ x
-After x (Says s) y = AfterSaid x s y
+After x (Err n) y = y ≡ x
+After x (Ok s) y = AfterSaid x s y
 
 pub after : (x : Exchange) (e : Event) → After x (told x e).answer (told x e).exchange
 after x e =
@@ -100,11 +100,11 @@ by : (x : Exchange) (e : Event) {a : Answer} → (told x e).answer ≡ a → Aft
 by x e h = subst (λ (a : Answer). After x a (told x e).exchange) h (after x e)
 
 -- a refused event leaves the exchange as it was
-pub refused-keeps : (x : Exchange) (e : Event) (n : Refusal) → (told x e).answer ≡ Refused n → (told x e).exchange ≡ x
+pub refused-keeps : (x : Exchange) (e : Event) (n : Refusal) → (told x e).answer ≡ Err n → (told x e).exchange ≡ x
 refused-keeps x e n h = by x e h
 
 -- an accepted delay is from 0 to 9,999,999, its offset within 100,000,000
-pub accepted-range : (x : Exchange) (e : Event) (m : Accepted) → (told x e).answer ≡ Says (Measured m) → Range m
+pub accepted-range : (x : Exchange) (e : Event) (m : Accepted) → (told x e).answer ≡ Ok (Measured m) → Range m
 accepted-range x e m h = (by x e h).0
 
 -- after any finished measurement both halves are empty
@@ -113,24 +113,24 @@ is_some none = false
 is_some (some v) = true
 
 abbrev pub finishes_of : Answer → Bool
-finishes_of (Refused n) = false
-finishes_of (Says s) = is_some (verdict_of s)
+finishes_of (Err n) = false
+finishes_of (Ok s) = is_some (verdict_of s)
 
 after-end : (x y : Exchange) (a : Answer) → After x a y → finishes_of a ≡ true → Spent y
-after-end x y (Refused n) f h = absurd (never h)
-after-end x y (Says Held) f h = absurd (never h)
-after-end x y (Says Paired) f h = absurd (never h)
-after-end x y (Says (Asked n)) f h = absurd (never h)
-after-end x y (Says Stamped) f h = absurd (never h)
-after-end x y (Says Back) f h = absurd (never h)
-after-end x y (Says Neg) f h = f.0
-after-end x y (Says Long) f h = f.0
-after-end x y (Says Huge) f h = f.1
-after-end x y (Says HugeFaulty) f h = f.1
-after-end x y (Says Path) f h = f.1
-after-end x y (Says PathWiped) f h = f.1
-after-end x y (Says (Step o)) f h = f.0
-after-end x y (Says (Measured m)) f h = f.1
+after-end x y (Err n) f h = absurd (never h)
+after-end x y (Ok Held) f h = absurd (never h)
+after-end x y (Ok Paired) f h = absurd (never h)
+after-end x y (Ok (Asked n)) f h = absurd (never h)
+after-end x y (Ok Stamped) f h = absurd (never h)
+after-end x y (Ok Back) f h = absurd (never h)
+after-end x y (Ok Neg) f h = f.0
+after-end x y (Ok Long) f h = f.0
+after-end x y (Ok Huge) f h = f.1
+after-end x y (Ok HugeFaulty) f h = f.1
+after-end x y (Ok Path) f h = f.1
+after-end x y (Ok PathWiped) f h = f.1
+after-end x y (Ok (Step o)) f h = f.0
+after-end x y (Ok (Measured m)) f h = f.1
 
 pub halves-spent : (x : Exchange) (e : Event) → finishes_of (told x e).answer ≡ true → Spent (told x e).exchange
 halves-spent x e h = after-end x (told x e).exchange (told x e).answer (after x e) h

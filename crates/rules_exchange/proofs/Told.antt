@@ -1,13 +1,14 @@
 -- The refusals, and the row of the table that the unit's memory leads to.
+use Rattle.std.specs.Prelude.{Ok, Err}
 use mathlib.Core.Path.{◌≡◌, refl, sym, ap, ◌∙◌}
 use mathlib.Core.Bool.{Bool, true, false, cond}
 use Prim.Native.Nat.{ℕ}
 use lib.Dec.{eqb}
 use lib.IntN.{ℤ, ◌+ℤ◌}
-use Rattle.numbers.specs.Grounds.{first_of}
+use Rattle.numbers.specs.Grounds.{Ruling, first_of}
+use Rattle.numbers.specs.declared.refusal.Refusal.{Refusal}
 use Rattle.numbers.specs.declared.stamp.Stamp.{Stamp}
 use Rattle.numbers.specs.declared.refusal.Refusal.TheVariants.{Correction, Unmatched}
-use Rattle.numbers.specs.declared.ruling.Ruling.TheVariants.{Clear, Barred}
 use Rattle.wire_layout.specs.declared.message.Port.{Port}
 use Rattle.rules_exchange.specs.declared.halves.Sync.{Sync}
 use Rattle.rules_exchange.specs.declared.halves.Request.{Request}
@@ -17,7 +18,7 @@ use Rattle.rules_exchange.specs.Halves.{SyncHalf, no_sync, awaits, knows, Reques
 use Rattle.rules_exchange.specs.Inner.{sync_waits_for, waits, sync_complete, request_waits_for, pends, request_complete, partners, partners_of}
 use Rattle.rules_measure.specs.Measure.{forward_of, back_of}
 use Rattle.rules_exchange.specs.Table.{Event, sync, follow_up, requested, sent, delay_resp, Row, unmatched, puts_sync, puts_request, measures, row_by, same_port}
-use Rattle.rules_exchange.specs.Events.{told, tells_of, stamp, local, correction_of, correction_in, row_of, is_unmatched, unless_barred, said_with, refused, with_sync, with_request, stamp_taken, finished, follows}
+use Rattle.rules_exchange.specs.Events.{Answer, Answered, told, tells_of, stamp, local, correction_of, correction_in, row_of, is_unmatched, unless_barred, said_with, refused, with_sync, with_request, stamp_taken, finished, follows}
 use Rattle.rules_delays.proofs.Tests.{never}
 
 -- ---- a refusal that is due, or what the row says
@@ -28,7 +29,7 @@ module _ (x : Exchange) (e : Event) where
   told_is = go (correction_in e) (row_of x e)
     where
       go : (b : Bool) (r : Row)
-          → unless_barred x (cond b (Barred Correction) (cond (is_unmatched r) (Barred Unmatched) Clear)) (follows x (local e) r)
+          → unless_barred x (cond b (Err Correction) (cond (is_unmatched r) (Err Unmatched) (Ok tt))) (follows x (local e) r)
           ≡ cond b (refused Correction x) (follows x (local e) r)
       go true r = refl
       go false unmatched = refl
@@ -42,6 +43,29 @@ module _ (x : Exchange) (e : Event) where
   pub told-row : (r : Row) → correction_in e ≡ false → row_of x e ≡ r → told x e ≡ follows x (local e) r
   unfolding tells_of
   told-row r h k = told_is ∙ rw (h, k)
+
+-- ---- CORRECTION, as the code asks it
+err-ok : {n : Refusal} → ◌≡◌ {A = Ruling} (Err n) (Ok tt) → ⊥
+err-ok z = cc
+
+pub passed : (b : Bool) (v : Ruling) → v ≡ cond b (Err Correction) (Ok tt) → v ≡ Ok tt → b ≡ false
+passed true v h g = let z : ◌≡◌ {A = Ruling} (Err Correction) (Ok tt) = sym h ∙ g in cc
+passed false v h g = refl
+
+pub told-barred : (x : Exchange) (e : Event) (n : Refusal) (v : Ruling) → v ≡ cond (correction_in e) (Err Correction) (Ok tt) → v ≡ Err n → refused n x ≡ told x e
+told-barred x e n v h g = go (correction_in e) refl
+  where
+    by : Ruling → Answered
+    by (Err k) = refused k x
+    by (Ok _) = refused n x
+
+    go : (b : Bool) → correction_in e ≡ b → refused n x ≡ told x e
+    go true f = let z : ◌≡◌ {A = Ruling} (Err n) (Err Correction) = sym g ∙ h ∙ rw f in ap by z ∙ sym (told-correction x e f)
+    go false f = let z : ◌≡◌ {A = Ruling} (Err n) (Ok tt) = sym g ∙ h ∙ rw f in absurd (err-ok z)
+
+-- both clauses of an event
+pub clauses : {a : Answer} {y : Exchange} {r : Answered} → ◌≡◌ {A = Answered} (record { answer = a; exchange = y }) r → record { answer : a ≡ r.answer; exchange : y ≡ r.exchange }
+clauses h = record { answer = ap (λ (r : Answered). r.answer) h; exchange = ap (λ (r : Answered). r.exchange) h }
 
 -- ---- the states of the halves, from the memory
 pub record Waits (s : Sync) (n : ℕ) : Type 0 where

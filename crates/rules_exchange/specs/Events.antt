@@ -1,17 +1,14 @@
 -- What each event does to the exchange: its refusals, the row of the table, the last local stamp, and the verdicts on a measurement.
-use Rattle.std.specs.Prelude.{Bool, true, false, not, cond, List, ℕ, ◌+◌, leb, ltb, ℤ, pos, nat_abs, ◌+ℤ◌, ◌-ℤ◌}
+use Rattle.std.specs.Prelude.{Bool, true, false, not, cond, List, ℕ, ◌+◌, leb, ltb, ℤ, pos, nat_abs, ◌+ℤ◌, ◌-ℤ◌, Ok, Err, Result}
 use Rattle.numbers.specs.Grounds.{Ground, first_of}
 use Rattle.numbers.specs.Orders.{Due, none_due, due_with, of_exchange}
 use Rattle.numbers.specs.Stamps.{no_stamp, sound_of, below_of}
 use Rattle.numbers.specs.declared.stamp.Stamp.{Stamp}
 use Rattle.numbers.specs.declared.refusal.Refusal.{Refusal}
 use Rattle.numbers.specs.declared.refusal.Refusal.TheVariants.{Correction, Unmatched}
-use Rattle.numbers.specs.declared.ruling.Ruling.{Ruling}
-use Rattle.numbers.specs.declared.ruling.Ruling.TheVariants.{Clear, Barred}
+use Rattle.numbers.specs.Grounds.{Ruling}
 use Rattle.rules_exchange.specs.declared.Last.{Last}
 use Rattle.rules_exchange.specs.declared.Exchange.{Exchange}
-use Rattle.rules_exchange.specs.declared.Answer.TheVariants.{Refused, Says}
-use Rattle.rules_exchange.specs.declared.Answered.{Answered}
 use Rattle.rules_exchange.specs.declared.said.Said.{Said}
 use Rattle.rules_exchange.specs.declared.said.Said.TheVariants.{Back, Neg, Long, Huge, HugeFaulty, Path, PathWiped, Step, Measured}
 use Rattle.rules_measure.specs.declared.Sum.{Sum}
@@ -21,17 +18,26 @@ use Rattle.rules_exchange.specs.Halves.{SyncHalf, RequestHalf, fresh_sync, fresh
 use Rattle.rules_measure.specs.Measure.{ns, sum_of, huge_of, is_step}
 use Rattle.rules_exchange.specs.Table.{Event, sync, follow_up, requested, sent, delay_resp, Row, unmatched, puts_sync, puts_request, measures, row_by}
 
+-- what the exchange answers to an event: what it says, or the refusal
+abbrev pub Answer : Type 0
+Answer = Result Said Refusal
+
+-- and what it is after it
+pub record Answered : Type 0 where
+  pub answer : Answer
+  pub exchange : Exchange
+
 -- as after a wipe: no halves, no last stamp, no delays, no rows
 abbrev pub fresh_exchange : Exchange
 fresh_exchange =
     record { sync = fresh_sync; request = fresh_request; last = record { taken = false; stamp = no_stamp }; delays = fresh_delays; huge = 0; path = 0 }
 
 abbrev pub said_with : Said → Exchange → Answered
-said_with s x = record { answer = Says s; exchange = x }
+said_with s x = record { answer = Ok s; exchange = x }
 
 -- a refusal, and nothing changes (rule 3.51)
 abbrev pub refused : Refusal → Exchange → Answered
-refused n x = record { answer = Refused n; exchange = x }
+refused n x = record { answer = Err n; exchange = x }
 
 -- ---- the exchange with one part changed
 abbrev pub with_sync : Exchange → SyncHalf → Exchange
@@ -159,8 +165,8 @@ unfoldable pub tells_of : Exchange → Event → Answered
 tells_of x e = follows x (local e) (row_of x e)
 
 abbrev pub unless_barred : Exchange → Ruling → Answered → Answered
-unless_barred x Clear a = a
-unless_barred x (Barred n) a = refused n x
+unless_barred x (Ok _) a = a
+unless_barred x (Err n) a = refused n x
 
 unfoldable pub told : Exchange → Event → Answered
 told x e = unless_barred x (first_of (grounds_of x e)) (tells_of x e)

@@ -1,14 +1,13 @@
 -- What only inner contracts cite: nobody needs to believe it.
-use Rattle.std.specs.Prelude.{Bool, true, false, cond, ℕ, eqb}
+use Rattle.std.specs.Prelude.{Bool, true, false, cond, ℕ, eqb, ℤ, Ok, Err}
+use Rattle.numbers.specs.Grounds.{Ruling}
+use Rattle.numbers.specs.declared.refusal.Refusal.TheVariants.{Correction}
 use Rattle.wire_layout.specs.declared.message.Port.{Port}
 use Rattle.rules_exchange.specs.declared.halves.Sync.{Sync}
 use Rattle.rules_exchange.specs.declared.halves.Request.{Request}
 use Rattle.rules_exchange.specs.Halves.{SyncHalf, no_sync, awaits, knows, RequestHalf, no_request, asked, stamped, sync_half, request_half}
-use Rattle.rules_exchange.specs.declared.Accepted.{Accepted}
-use Rattle.rules_exchange.specs.declared.brief.Brief.{Brief}
-use Rattle.rules_exchange.specs.declared.said.Said.{Said}
-use Rattle.rules_exchange.specs.Said.{code_of, wipes_of, faults_of, steers_of, sequence_in, found_in}
 use Rattle.rules_exchange.specs.Table.{same_port}
+use Rattle.rules_exchange.specs.Events.{correction_of}
 
 -- t1 is awaited for this sequenceId
 abbrev pub waits : SyncHalf → ℕ → Bool
@@ -53,10 +52,6 @@ partners s r n p own = cond (ready s) (cond (answerable r n) (same_port p own) f
 abbrev pub partners_of : Sync → Request → ℕ → Port → Port → Bool
 partners_of s r n p own = partners (sync_half s) (request_half r) n p own
 
--- ---- what an answer says, in brief
-abbrev pub brief_with : (code : ℕ) (wipes faults steers : Bool) (sequence : ℕ) (found : Accepted) → Brief
-brief_with code wipes faults steers sequence found =
-    record { code = code; wipes = wipes; faults = faults; steers = steers; sequence = sequence; found = found }
-
-abbrev pub brief_of : Said → Brief
-brief_of s = brief_with (code_of s) (wipes_of s) (faults_of s) (steers_of s) (sequence_in s) (found_in s)
+-- CORRECTION, by itself
+abbrev pub correction_barred : ℤ → Ruling
+correction_barred c = cond (correction_of c) (Err Correction) (Ok tt)

@@ -1,15 +1,15 @@
 // The two halves of a measurement: the Sync that is held and the request that is pending.
 ghost use Rattle.std.specs.Prelude.{◌≡◌};
 ghost use Rattle.rules_exchange.specs.Halves.{fresh_sync, fresh_request, as_sync, heard};
-ghost use Rattle.rules_measure.specs.Measure.{times_of};
 ghost use Rattle.rules_exchange.specs.Inner.{sync_waits_for, sync_complete, request_waits_for, request_complete};
 
 use numbers::stamp::Stamp;
-use rules_measure::{Times, measured};
 
 // The Sync held, if any. Corrections stay uncut, in 1/65,536 ns.
+// `held` and `known` stay flags beside their values: what C's octets hold under a flag of 0 is read and written back as it lies
+// (sinezhab_receive, sinezhab_sent).
 #[repr(C)]
-#[derive(Clone, Copy)]
+#[derive(Clone, Copy, Default)]
 pub struct Sync {
     pub held: bool,
     pub known: bool, // t1 is
@@ -20,9 +20,9 @@ pub struct Sync {
     pub follow: i64, // the Follow_Up's correction
 }
 
-// The request pending, if any.
+// The request pending, if any. `pending` and `given` stay flags for the same reason.
 #[repr(C)]
-#[derive(Clone, Copy)]
+#[derive(Clone, Copy, Default)]
 pub struct Request {
     pub pending: bool,
     pub given: bool, // t3 is
@@ -35,16 +35,7 @@ impl Sync {
     pub fn fresh() -> Sync
         ensures { result ≡ fresh_sync }
     {
-        let none = Stamp::zero();
-        Sync {
-            held: false,
-            known: false,
-            sequence: 0,
-            t1: none,
-            t2: none,
-            correction: 0,
-            follow: 0,
-        }
+        Sync::default()
     }
 
     // A Sync that came, its correction uncut. A two-step one has no t1 yet.
@@ -57,21 +48,15 @@ impl Sync {
     ) -> Sync
         ensures { result ≡ as_sync (heard two_step sequence correction t1 t2) }
     {
-        let mut sync = Sync {
+        Sync {
             held: true,
-            known: true,
+            known: !two_step,
             sequence,
-            t1,
+            t1: if two_step { Stamp::zero() } else { t1 },
             t2,
             correction,
             follow: 0,
-        };
-        if two_step {
-            sync.known = false;
-            sync.t1 = Stamp::zero();
-            return sync;
         }
-        sync
     }
 
     // A Follow_Up of this sequenceId gives t1.
@@ -79,15 +64,7 @@ impl Sync {
     pub(crate) fn waits_for(self, sequence: u16) -> bool
         ensures { result ≡ sync_waits_for self sequence }
     {
-        if self.held {
-            if self.known {
-                false
-            } else {
-                self.sequence == sequence
-            }
-        } else {
-            false
-        }
+        self.held && !self.known && self.sequence == sequence
     }
 
     // t1 and t2 are there.
@@ -95,7 +72,7 @@ impl Sync {
     pub(crate) fn complete(self) -> bool
         ensures { result ≡ sync_complete self }
     {
-        if self.held { self.known } else { false }
+        self.held && self.known
     }
 }
 
@@ -104,12 +81,7 @@ impl Request {
     pub fn fresh() -> Request
         ensures { result ≡ fresh_request }
     {
-        Request {
-            pending: false,
-            given: false,
-            sequence: 0,
-            t3: Stamp::zero(),
-        }
+        Request::default()
     }
 
     // t3 is given for this sequenceId.
@@ -117,15 +89,7 @@ impl Request {
     pub(crate) fn waits_for(self, sequence: u16) -> bool
         ensures { result ≡ request_waits_for self sequence }
     {
-        if self.pending {
-            if self.given {
-                false
-            } else {
-                self.sequence == sequence
-            }
-        } else {
-            false
-        }
+        self.pending && !self.given && self.sequence == sequence
     }
 
     // t3 is there, and a Delay_Resp of this sequenceId answers.
@@ -133,29 +97,6 @@ impl Request {
     pub(crate) fn complete(self, sequence: u16) -> bool
         ensures { result ≡ request_complete self sequence }
     {
-        if self.pending {
-            if self.given {
-                self.sequence == sequence
-            } else {
-                false
-            }
-        } else {
-            false
-        }
+        self.pending && self.given && self.sequence == sequence
     }
-}
-
-// What the two halves and the Delay_Resp's t4 and correction tell.
-pub(crate) fn times(sync: Sync, request: Request, t4: Stamp, correction: i64) -> Times
-    ensures { result ≡ times_of sync.t1 sync.t2 sync.correction sync.follow request.t3 t4 correction }
-{
-    measured(
-        sync.t1,
-        sync.t2,
-        sync.correction,
-        sync.follow,
-        request.t3,
-        t4,
-        correction,
-    )
 }

@@ -1,4 +1,5 @@
 -- The admission of an Announce: how it ends, what it changes in the table, and that no sender ever has two live records.
+use Rattle.std.specs.Prelude.{Ok, Err}
 use mathlib.Core.Path.{◌≡◌, refl, sym, ap, ◌∙◌}
 use mathlib.Core.Bool.{Bool, true, false, cond, not, true≢false, ◌&&◌}
 use mathlib.Core.List.{map}
@@ -8,20 +9,18 @@ use lib.Dec.{ltb, leb}
 use lib.ListN.{length, get_or, set, length-set}
 use lib.Seq.{get_or-set_same, get_or-set_other}
 use borrow.Author.Tests.{ltb-true, ltb-false, leb-false, eqb-false, not-true}
-use Rattle.numbers.specs.declared.ruling.Ruling.{Ruling}
-use Rattle.numbers.specs.declared.ruling.Ruling.TheVariants.{Clear, Barred}
+use Rattle.numbers.specs.Grounds.{Ruling}
+use Rattle.rules_masters.specs.Admitting.{Answer}
+use Rattle.rules_masters.specs.declared.admission.Entry.TheVariants.{Renewed, Entered}
 use Rattle.numbers.specs.Grounds.{first_of}
 use Rattle.wire_layout.specs.declared.message.Port.{Port}
 use Rattle.rules_masters.specs.declared.record.Announce.{Announce}
 use Rattle.rules_masters.specs.declared.record.Record.{Record}
 use Rattle.rules_masters.specs.declared.table.Table.{Table}
 use Rattle.rules_masters.specs.declared.standing.Standing.{Standing}
-use Rattle.rules_masters.specs.declared.admission.Answer.{Answer}
-use Rattle.rules_masters.specs.declared.admission.Answer.TheVariants.{Refused, Renewed, Entered}
-use Rattle.rules_masters.specs.declared.admission.Admitted.{Admitted}
 use Rattle.rules_masters.specs.Records.{interval_of, live_of, known_of, fresh_record, entered_of, renewed_of}
 use Rattle.rules_masters.specs.Places.{place_of, count_of}
-use Rattle.rules_masters.specs.Admitting.{is_repeat, is_full, standings_in, accepted_of, grounds_of, admitted_by, admitted_of}
+use Rattle.rules_masters.specs.Admitting.{Admitted, is_repeat, is_full, standings_in, accepted_of, grounds_of, admitted_by, admitted_of}
 use Rattle.rules_masters.proofs.Barring.{clear-announce}
 use Rattle.rules_masters.proofs.Placing.{place-holds, place-there, has_room, absent, opposite}
 use Rattle.rules_masters.proofs.Standings.{home_same, free-same, live_same, repeat-same}
@@ -45,9 +44,9 @@ module _ (t : Table) (m : Announce) (interval now : ℕ) where
 
   -- what goes with each answer
   abbrev pub Outcome : Answer → Table → Type 0
-  Outcome (Refused r) u = u ≡ t
-  Outcome (Renewed place) u = Renewal place u
-  Outcome (Entered place) u = Entry place u
+  Outcome (Err r) u = u ≡ t
+  Outcome (Ok (Renewed place)) u = Renewal place u
+  Outcome (Ok (Entered place)) u = Entry place u
 
   accepted : length t.records ≡ 5 → is_repeat (standings_in t.records m interval now) ≡ false → is_full (standings_in t.records m interval now) ≡ false
       → Outcome (accepted_of t.records m interval now).answer (accepted_of t.records m interval now).table
@@ -62,10 +61,10 @@ module _ (t : Table) (m : Announce) (interval now : ℕ) where
       first = place_of (absent now interval) t.records
 
       renewed : Admitted
-      renewed = record { answer = Renewed place; table = record { records = set t.records place (renewed_of (get_or t.records place fresh_record) m now) } }
+      renewed = record { answer = Ok (Renewed place); table = record { records = set t.records place (renewed_of (get_or t.records place fresh_record) m now) } }
 
       entered : Admitted
-      entered = record { answer = Entered first; table = record { records = set t.records first (entered_of m now) } }
+      entered = record { answer = Ok (Entered first); table = record { records = set t.records first (entered_of m now) } }
 
       by : (k : Bool) → ltb place 5 ≡ k
           → (k && get_or (map (λ (s : Standing). s.repeats) (standings_in t.records m interval now)) place false) ≡ false
@@ -88,8 +87,8 @@ outcome t m domain own a last now five = by (first_of (grounds_of t m domain own
     by : (v : Ruling) → first_of (grounds_of t m domain own a last now) ≡ v
         → Outcome t m (interval_of a) now (admitted_by v t (accepted_of t.records m (interval_of a) now)).answer
         (admitted_by v t (accepted_of t.records m (interval_of a) now)).table
-    by Clear e = let n = clear-announce _ _ _ _ _ (standings_in t.records m (interval_of a) now) e in accepted t m (interval_of a) now five n.1 n.2
-    by (Barred r) e = refl
+    by (Ok _) e = let n = clear-announce _ _ _ _ _ (standings_in t.records m (interval_of a) now) e in accepted t m (interval_of a) now five n.1 n.2
+    by (Err r) e = refl
 
 -- the table has changed at this place, and nowhere else
 pub record OneChanged (t : Table) (place : ℕ) (u : Table) : Type 0 where
@@ -99,9 +98,9 @@ pub record OneChanged (t : Table) (place : ℕ) (u : Table) : Type 0 where
   pub five : length u.records ≡ 5
 
 abbrev pub Changes : Table → Answer → Table → Type 0
-Changes t (Refused r) u = u ≡ t
-Changes t (Renewed place) u = OneChanged t place u
-Changes t (Entered place) u = OneChanged t place u
+Changes t (Err r) u = u ≡ t
+Changes t (Ok (Renewed place)) u = OneChanged t place u
+Changes t (Ok (Entered place)) u = OneChanged t place u
 
 one-changed : (t : Table) (place : ℕ) (r : Record) (u : Table) → length t.records ≡ 5 → place < 5
     → (r ≡ get_or t.records place fresh_record → ⊥) → u ≡ record { records = set t.records place r } → OneChanged t place u
@@ -118,10 +117,10 @@ module _ (t : Table) (m : Announce) (interval now : ℕ) (five : length t.record
   -- a renewed record has another sequenceId, and a new one is live where the old was not
   changes-by : (x : Answer) (u : Table) → Outcome t m interval now x u → Changes t x u
   unfolding absent
-  changes-by (Refused r) u o = o
-  changes-by (Renewed place) u o =
+  changes-by (Err r) u o = o
+  changes-by (Ok (Renewed place)) u o =
       one-changed t place _ u five o.inside (λ q. o.fresh (sym (ap (λ (r : Record). r.announce.header.sequence) q))) o.after
-  changes-by (Entered place) u o =
+  changes-by (Ok (Entered place)) u o =
       let dead : live_of now interval (get_or t.records place fresh_record) ≡ false =
       rw o.free (not-true _ (place-holds (absent now interval) t.records fresh_record (omega (arith, o.free, o.inside)))) in
       let live : live_of now interval (entered_of m now) ≡ true = (live-exactly interval (entered_of m now) now).1 (omega arith) in
@@ -143,9 +142,9 @@ admission-five t m domain own a last now five = by r.answer r.table (admission-c
     r = admitted_of t m domain own a last now
 
     by : (x : Answer) (u : Table) → Changes t x u → length u.records ≡ 5
-    by (Refused n) u e = rw e five
-    by (Renewed place) u c = c.five
-    by (Entered place) u c = c.five
+    by (Err n) u e = rw e five
+    by (Ok (Renewed place)) u c = c.five
+    by (Ok (Entered place)) u c = c.five
 
 module _ (t : Table) (m : Announce) (interval now : ℕ) (five : length t.records ≡ 5) (keyed : Keyed now interval t.records) where
   -- the sender's live record was at that place already, ..
@@ -174,10 +173,10 @@ module _ (t : Table) (m : Announce) (interval now : ℕ) (five : length t.record
       absurd (omega (arith, o.unknown))
 
   keyed-by : (x : Answer) (u : Table) → Outcome t m interval now x u → Keyed now interval u.records
-  keyed-by (Refused r) u o = rw o keyed
-  keyed-by (Renewed place) u o =
+  keyed-by (Err r) u o = rw o keyed
+  keyed-by (Ok (Renewed place)) u o =
       rw o.after (keyed-set now interval t.records place _ (omega (arith, o.inside)) keyed (renewed-alone place u o))
-  keyed-by (Entered place) u o =
+  keyed-by (Ok (Entered place)) u o =
       rw o.after (keyed-set now interval t.records place _ (omega (arith, o.inside)) keyed (entered-alone place u o))
 
 -- THEOREM. Where no sender has two live records, none has after an admission.

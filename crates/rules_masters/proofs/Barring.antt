@@ -1,9 +1,9 @@
 -- The refusals of an Announce: as the code asks them, in two parts; and that none is due where none is given.
+use Rattle.std.specs.Prelude.{Ok}
 use mathlib.Core.Path.{◌≡◌, refl}
 use mathlib.Core.Bool.{Bool, true, false}
 use mathlib.Core.List.{List}
 use Rattle.numbers.specs.declared.refusal.Refusal.TheVariants.{Now, Domain, Own, Alternate, Steps}
-use Rattle.numbers.specs.declared.ruling.Ruling.TheVariants.{Clear}
 use Rattle.numbers.specs.Grounds.{Ground, first_of}
 use Rattle.numbers.specs.Orders.{Due, none_due, due_with, of_announce}
 use Rattle.numbers.proofs.Grounds.{or_else, clear-cons}
@@ -28,12 +28,12 @@ two-parts false false false false true l = refl
 two-parts false false false false false l = refl
 
 -- of those that a caller asks about: NOW, REPEAT and FULL
-pub clear-announce : (now domain own alternate steps : Bool) (l : List Standing) → first_of (grounds now domain own alternate steps (table_due l)) ≡ Clear
+pub clear-announce : (now domain own alternate steps : Bool) (l : List Standing) → first_of (grounds now domain own alternate steps (table_due l)) ≡ Ok tt
     → (now ≡ false) × (is_repeat l ≡ false) × (is_full l ≡ false)
 clear-announce now domain own alternate steps l e =
     let first = clear-cons _ _ e in
     let sixth = clear-cons _ _ (clear-cons _ _ (clear-cons _ _ (clear-cons _ _ (clear-cons _ _ first.1).1).1).1).1 in
     (first.0, sixth.0, (clear-cons _ _ sixth.1).0)
 
-pub clear-table : (l : List Standing) → first_of (of_announce (table_due l)) ≡ Clear → (is_repeat l ≡ false) × (is_full l ≡ false)
+pub clear-table : (l : List Standing) → first_of (of_announce (table_due l)) ≡ Ok tt → (is_repeat l ≡ false) × (is_full l ≡ false)
 clear-table l e = let n = clear-announce false false false false false l e in (n.1, n.2)

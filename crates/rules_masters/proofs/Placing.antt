@@ -1,8 +1,11 @@
 -- Places: at the first place of which p holds it does, and at none before it; and a table has room exactly where not all are live.
-use mathlib.Core.Path.{◌≡◌, refl}
+use Rattle.std.specs.Prelude.{Option, Some, None}
+use Rattle.std.specs.List.{position_or_len}
+use Rattle.std.proofs.lemmas.List.Recursion.{is_position_or_len}
+use mathlib.Core.Path.{◌≡◌, refl, sym, subst, ◌∙◌}
 use mathlib.Core.Bool.{Bool, true, false, cond, not}
 use mathlib.Core.List.{List, [], ◌∷◌}
-use Prim.Native.Nat.{ℕ, zero, suc, ◌≤◌, ◌<◌}
+use Prim.Native.Nat.{ℕ, zero, suc, ◌+◌, ◌≤◌, ◌<◌}
 use native.Mathlib.Omega.{arith}
 use lib.Dec.{ltb}
 use lib.ListN.{length, get_or}
@@ -40,6 +43,35 @@ module _ {A : Type 0} (p : A → Bool) where
       most-by : (t : Bool) (l : List A) → count_of p l ≤ length l → cond t (suc (count_of p l)) (count_of p l) ≤ suc (length l)
       most-by true l h = omega arith
       most-by false l h = omega arith
+
+-- what std's search for a place finds
+module _ {A : Type 0} (p : A → Bool) where
+  place-is : (l : List A) → place_of p l ≡ position_or_len p l
+  unfolding place_of
+  place-is l = is_position_or_len (λ k. place_of p k) p refl (λ x k. by (p x) k) l
+    where
+      by : (b : Bool) (k : List A) → cond b 0 (suc (place_of p k)) ≡ cond b 0 (1 + place_of p k)
+      by true k = refl
+      by false k = omega arith
+
+  module _ (l : List A) (r : Option ℕ) (e : r ≡ cond (ltb (position_or_len p l) (length l)) (Some (position_or_len p l)) None) where
+    pub place-found : (at : ℕ) → r ≡ Some at → (place_of p l ≡ at) × (at < length l)
+    place-found at h = rw (place-is l) (by (ltb (position_or_len p l) (length l)) refl (sym e ∙ h))
+      where
+        by : (b : Bool) → ltb (position_or_len p l) (length l) ≡ b → cond b (Some (position_or_len p l)) None ≡ Some at
+            → (position_or_len p l ≡ at) × (at < length l)
+        by true f g =
+            let q : position_or_len p l ≡ at = cc in
+            (q, subst (λ i. i < length l) q (ltb-true _ _ f))
+        by false f g = cc
+
+    pub place-missed : r ≡ None → ltb (place_of p l) (length l) ≡ false
+    place-missed h = rw (place-is l) (by (ltb (position_or_len p l) (length l)) refl (sym e ∙ h))
+      where
+        by : (b : Bool) → ltb (position_or_len p l) (length l) ≡ b → cond b (Some (position_or_len p l)) None ≡ None
+            → ltb (position_or_len p l) (length l) ≡ false
+        by true f g = cc
+        by false f g = f
 
 -- q holds where p does not: q has a place exactly where p does not hold throughout
 module _ {A : Type 0} (p q : A → Bool) (opposite : (x : A) → q x ≡ not (p x)) where

@@ -1,8 +1,8 @@
 -- The admission of an Announce (rules 3.9 to 3.15, 3.56 and 5.5 to 5.7).
-use Rattle.std.specs.Prelude.{ℕ, ◌/◌, ◌%◌, Bool, false, cond, not, ◌&&◌, List, map, ltb, leb, eqb, get_or, set}
+use Rattle.std.specs.Prelude.{ℕ, ◌/◌, ◌%◌, Bool, false, cond, not, ◌&&◌, List, map, ltb, leb, eqb, get_or, set, Ok, Err, Result}
 use Rattle.numbers.specs.declared.refusal.Refusal.TheVariants.{Now, Domain, Own, Alternate, Steps, Repeat, Full}
-use Rattle.numbers.specs.declared.ruling.Ruling.{Ruling}
-use Rattle.numbers.specs.declared.ruling.Ruling.TheVariants.{Clear, Barred}
+use Rattle.numbers.specs.Grounds.{Ruling}
+use Rattle.rules_masters.specs.declared.admission.Entry.TheVariants.{Renewed, Entered}
 use Rattle.numbers.specs.Grounds.{Ground, first_of}
 use Rattle.numbers.specs.Orders.{Due, none_due, due_with, of_announce}
 use Rattle.wire_layout.specs.declared.message.Port.{Port}
@@ -10,10 +10,19 @@ use Rattle.rules_masters.specs.declared.record.Announce.{Announce}
 use Rattle.rules_masters.specs.declared.record.Record.{Record}
 use Rattle.rules_masters.specs.declared.table.Table.{Table}
 use Rattle.rules_masters.specs.declared.standing.Standing.{Standing}
-use Rattle.rules_masters.specs.declared.admission.Answer.TheVariants.{Refused, Renewed, Entered}
-use Rattle.rules_masters.specs.declared.admission.Admitted.{Admitted}
 use Rattle.rules_masters.specs.Records.{interval_of, live_of, known_of, fresh_record, entered_of, renewed_of}
 use Rattle.rules_masters.specs.Places.{place_of, count_of}
+use Rattle.rules_masters.specs.declared.admission.Entry.{Entry}
+use Rattle.numbers.specs.declared.refusal.Refusal.{Refusal}
+
+-- what becomes of an Announce: its place, or the refusal
+abbrev pub Answer : Type 0
+Answer = Result Entry Refusal
+
+-- the answer, and the table after it
+pub record Admitted : Type 0 where
+  pub answer : Answer
+  pub table : Table
 
 -- the lowest bit of octet 6 (rule 2.3); the flags are octets 6 and 7, big-endian
 unfoldable pub alternate_of : Announce → Bool
@@ -69,16 +78,16 @@ module _ (t : List Record) (m : Announce) (interval now : ℕ) where
       let place = home standings_in in
       let first = free standings_in in
       cond (is_known standings_in)
-      (record { answer = Renewed place; table = record { records = set t place (renewed_of (get_or t place fresh_record) m now) } })
-      (record { answer = Entered first; table = record { records = set t first (entered_of m now) } })
+      (record { answer = Ok (Renewed place); table = record { records = set t place (renewed_of (get_or t place fresh_record) m now) } })
+      (record { answer = Ok (Entered first); table = record { records = set t first (entered_of m now) } })
 
 abbrev pub grounds_of : Table → Announce → ℕ → Port → ℕ → ℕ → ℕ → List Ground
 grounds_of t m domain own a last now = grounds_with m domain own last now (table_due (standings_in t.records m (interval_of a) now))
 
 -- a refusal leaves the table as it was (rule 3.51)
 abbrev pub admitted_by : Ruling → Table → Admitted → Admitted
-admitted_by Clear t accepted = accepted
-admitted_by (Barred r) t accepted = record { answer = Refused r; table = t }
+admitted_by (Ok _) t accepted = accepted
+admitted_by (Err r) t accepted = record { answer = Err r; table = t }
 
 unfoldable pub admitted_of : Table → Announce → ℕ → Port → ℕ → ℕ → ℕ → Admitted
 admitted_of t m domain own a last now =

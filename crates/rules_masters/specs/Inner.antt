@@ -1,26 +1,25 @@
 -- What only inner contracts cite: nobody needs to believe it. proofs/Standings.antt and proofs/Candidates.antt bring it back to what is believed.
-use Rattle.std.specs.Prelude.{ℕ, Bool, true, false, cond, List, [], ◌∷◌, ltb, eqb, get_or, set}
-use Rattle.std.proofs.Math.Option.{Option, none, some}
-use Rattle.numbers.specs.declared.refusal.Refusal.{Refusal}
-use Rattle.numbers.specs.declared.ruling.Ruling.{Ruling}
-use Rattle.numbers.specs.declared.ruling.Ruling.TheVariants.{Clear, Barred}
-use Rattle.numbers.specs.Grounds.{first_of}
+use Rattle.std.specs.Prelude.{ℕ, Bool, true, cond, List, [], ◌∷◌, eqb, get_or, set, Ok, Err, Option, Some, None}
+use Rattle.std.specs.List.{filter_map}
+use Rattle.std.proofs.Math.Option.{Option as Chance, none, some}
+use Rattle.numbers.specs.Grounds.{Ruling, first_of}
 use Rattle.numbers.specs.Orders.{none_due, of_announce}
 use Rattle.wire_layout.specs.declared.message.Port.{Port}
 use Rattle.rules_masters.specs.declared.record.Announce.{Announce}
 use Rattle.rules_masters.specs.declared.record.Record.{Record}
 use Rattle.rules_masters.specs.declared.table.Table.{Table}
 use Rattle.rules_masters.specs.declared.standing.Standing.{Standing}
-use Rattle.rules_masters.specs.declared.standing.Seat.{Seat}
+use Rattle.rules_masters.specs.declared.admission.Entry.{Entry}
+use Rattle.rules_masters.specs.declared.admission.Entry.TheVariants.{Renewed, Entered}
+use Rattle.rules_masters.specs.declared.comparison.Merits.{Merits}
+use Rattle.rules_masters.specs.declared.comparison.Nearness.{Nearness}
 use Rattle.rules_masters.specs.declared.candidate.Candidate.{Candidate}
 use Rattle.rules_masters.specs.declared.chosen.Chosen.{Chosen}
-use Rattle.rules_masters.specs.declared.admission.Admitted.{Admitted}
-use Rattle.rules_masters.specs.declared.admission.Answer.TheVariants.{Renewed, Entered}
 use Rattle.rules_masters.specs.Records.{qualified_of, fresh_record, entered_of, renewed_of}
 use Rattle.rules_masters.specs.Comparison.{smaller}
-use Rattle.rules_masters.specs.Choosing.{those, choice_among}
+use Rattle.rules_masters.specs.Choosing.{choice_among}
 use Rattle.rules_masters.specs.Holding.{fresh_chosen}
-use Rattle.rules_masters.specs.Admitting.{grounds_with, standing_of, home, is_known, free, table_due, standings_in, accepted_of, admitted_by}
+use Rattle.rules_masters.specs.Admitting.{Answer, Admitted, grounds_with, home, is_known, free, table_due, standings_in, accepted_of, admitted_by}
 
 -- ---- the admission: the refusals of an Announce that need no table, ..
 abbrev pub barred_of : Announce → ℕ → Port → ℕ → ℕ → Ruling
@@ -31,78 +30,66 @@ unfoldable pub seated_of : Table → Announce → ℕ → ℕ → Admitted
 seated_of t m interval now =
     admitted_by (first_of (of_announce (table_due (standings_in t.records m interval now)))) t (accepted_of t.records m interval now)
 
--- the sender has a live record, and it is at this place, ..
-abbrev pub own_seat : ℕ → Ruling → Seat
-own_seat place ruling = record { ruling = ruling; at = place; known = true }
+abbrev pub place_in : Entry → ℕ
+place_in (Renewed place) = place
+place_in (Entered place) = place
 
--- .. or it has none, and takes this one, ..
-abbrev pub new_seat : ℕ → Seat
-new_seat place = record { ruling = Clear; at = place; known = false }
+-- what five standings come to: the place of the sender's live record; or it has none, and takes the first place that is not live
+abbrev pub seat_unless : Ruling → Answer → Answer
+seat_unless (Err r) place = Err r
+seat_unless (Ok _) place = place
 
--- .. if it is one of the five; else it is refused
-abbrev pub free_seat : Refusal → ℕ → Seat
-free_seat refusal place = cond (ltb place 5) (new_seat place) (record { ruling = Barred refusal; at = 0; known = false })
-
--- what five standings come to
-abbrev pub seat_among : List Standing → Seat
-seat_among l =
-    record {
-      ruling = first_of (of_announce (table_due l));
-      at = cond (is_known l) (home l) (cond (ltb (free l) 5) (free l) 0);
-      known = is_known l;
-    }
-
-unfoldable pub seat_of : (a b c d e : Standing) → Seat
-seat_of a b c d e = seat_among (a ∷ b ∷ c ∷ d ∷ e ∷ [])
-
--- the seat that the five places of a table give
-unfoldable pub seat_in : List Record → (sender : Port) (sequence now interval : ℕ) → Seat
-seat_in t sender sequence now interval =
-    let at : ℕ → Standing = λ place. standing_of sender sequence now interval (get_or t place fresh_record) in
-    seat_of (at 0) (at 1) (at 2) (at 3) (at 4)
+unfoldable pub seat_of : List Standing → Answer
+seat_of l = seat_unless (first_of (of_announce (table_due l))) (cond (is_known l) (Ok (Renewed (home l))) (Ok (Entered (free l))))
 
 -- what a seat makes of the table
-abbrev pub settled_of : Seat → Table → Announce → ℕ → Admitted
-settled_of s t m now =
-    admitted_by s.ruling t
-    (cond s.known
-    (record { answer = Renewed s.at; table = record { records = set t.records s.at (renewed_of (get_or t.records s.at fresh_record) m now) } })
-    (record { answer = Entered s.at; table = record { records = set t.records s.at (entered_of m now) } }))
+abbrev pub settled_of : Answer → Table → Announce → ℕ → Admitted
+settled_of (Err r) t m now = record { answer = Err r; table = t }
+settled_of (Ok (Renewed place)) t m now =
+    record { answer = Ok (Renewed place); table = record { records = set t.records place (renewed_of (get_or t.records place fresh_record) m now) } }
+settled_of (Ok (Entered place)) t m now = record { answer = Ok (Entered place); table = record { records = set t.records place (entered_of m now) } }
 
 -- ---- the choice: what it asks of one record
-unfoldable pub candidate_of : (now interval : ℕ) → Record → Candidate
+unfoldable pub candidate_of : (now interval : ℕ) → Record → Option Candidate
 candidate_of now interval r =
     let m = r.announce in
-    record {
-      grandmaster = m.offer.grandmaster;
-      clock = m.header.source.clock;
-      variance = m.offer.variance;
-      steps = m.offer.steps;
-      number = m.header.source.number;
-      priority1 = m.offer.priority1;
-      class = m.offer.class;
-      accuracy = m.offer.accuracy;
-      priority2 = m.offer.priority2;
-      qualified = qualified_of now interval r;
-    }
+    cond (qualified_of now interval r)
+    (Some
+    (record {
+      merits = record {
+        priority1 = m.offer.priority1;
+        class = m.offer.class;
+        accuracy = m.offer.accuracy;
+        variance = m.offer.variance;
+        priority2 = m.offer.priority2;
+        grandmaster = m.offer.grandmaster;
+      };
+      nearness = record { steps = m.offer.steps; sender = m.header.source };
+    }))
+    None
 
 -- as merits, nearness and better_of of the records
-abbrev pub merits_in : Candidate → List ℕ
-merits_in c = c.priority1 ∷ c.class ∷ c.accuracy ∷ c.variance ∷ c.priority2 ∷ c.grandmaster ∷ []
+abbrev pub merits_in : Merits → List ℕ
+merits_in m = m.priority1 ∷ m.class ∷ m.accuracy ∷ m.variance ∷ m.priority2 ∷ m.grandmaster ∷ []
 
-abbrev pub nearness_in : Candidate → List ℕ
-nearness_in c = c.steps ∷ c.clock ∷ c.number ∷ []
+abbrev pub nearness_in : Nearness → List ℕ
+nearness_in n = n.steps ∷ n.sender.clock ∷ n.sender.number ∷ []
 
 unfoldable pub beats_of : Candidate → Candidate → Bool
-beats_of a b = cond (eqb a.grandmaster b.grandmaster) (smaller (nearness_in a) (nearness_in b)) (smaller (merits_in a) (merits_in b))
+beats_of a b =
+    cond (eqb a.merits.grandmaster b.merits.grandmaster) (smaller (nearness_in a.nearness) (nearness_in b.nearness))
+    (smaller (merits_in a.merits) (merits_in b.merits))
 
--- one step of the choice; a candidate that is not qualified stands for none
-unfoldable pub kept_of : (held next : Candidate) → Candidate
-kept_of held next = cond next.qualified (cond held.qualified (cond (beats_of next held) next held) next) held
+-- one step of the choice
+unfoldable pub kept_of : (held next : Option Candidate) → Option Candidate
+kept_of None next = next
+kept_of (Some h) None = Some h
+kept_of (Some h) (Some n) = Some (cond (beats_of n h) n h)
 
-abbrev pub sender_in : Option Candidate → Chosen
+abbrev pub sender_in : Chance Candidate → Chosen
 sender_in none = fresh_chosen
-sender_in (some c) = record { some = true; sender = record { clock = c.clock; number = c.number } }
+sender_in (some c) = record { some = true; sender = c.nearness.sender }
 
-unfoldable pub best_of : (a b c d e : Candidate) → Chosen
-best_of a b c d e = sender_in (choice_among beats_of (those (λ (x : Candidate). x.qualified) (a ∷ b ∷ c ∷ d ∷ e ∷ [])))
+-- the choice over candidates
+unfoldable pub best_of : List (Option Candidate) → Chosen
+best_of l = sender_in (choice_among beats_of (filter_map (λ c. c) l))

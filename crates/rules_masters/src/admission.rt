@@ -1,29 +1,31 @@
 // The admission of an Announce into the table.
 ghost use Rattle.std.specs.Prelude.{◌≡◌};
 ghost use Rattle.rules_masters.specs.Admitting.{alternate_of, admitted_of};
-ghost use Rattle.rules_masters.specs.Inner.{barred_of, seat_in, seated_of};
+ghost use Rattle.rules_masters.specs.Inner.{barred_of, place_in};
 
-use crate::record::{Announce, Record, interval};
+use crate::moment::Moment;
+use crate::record::{Announce, Record};
 use crate::seats::seat;
-use crate::standing::Seat;
 use crate::table::Table;
 use numbers::refusal::Refusal;
-use numbers::ruling::Ruling;
 use wire_layout::message::Port;
 
-// What became of an Announce: its refusal, or the place whose record it renewed, or the place that its new sender took.
+// Where an Announce is admitted: the place whose record it renewed, or the place that its new sender took.
 #[derive(Clone, Copy)]
-pub enum Answer {
-    Refused(Refusal),
+pub enum Entry {
     Renewed(usize),
     Entered(usize),
 }
 
-// The answer, and the table after it.
-#[derive(Clone, Copy)]
-pub struct Admitted {
-    pub answer: Answer,
-    pub table: Table,
+impl Entry {
+    // The place, either way.
+    pub fn place(self) -> usize
+        ensures { result ≡ place_in self }
+    {
+        match self {
+            Entry::Renewed(place) | Entry::Entered(place) => place,
+        }
+    }
 }
 
 // Bit 0 of octet 6 (rule 2.3) is bit 8 of the two octets of flags.
@@ -34,97 +36,53 @@ fn alternate(announce: Announce) -> bool
     announce.header.flags / 256 % 2 == 1
 }
 
-// The refusals that need no table, in the order of rule 3.56.
+// The refusals that need no table, in the order of rule 3.56. The settings come one by one, as at `admit`.
 #[tactic(auto, unfolding(numbers::specs::Grounds::first_of), using(numbers::proofs::Grounds::tested))]
-pub fn barred(announce: Announce, domain: u8, own: Port, last: u64, now: u64) -> Ruling
+pub fn barred(announce: Announce, domain: u8, own: Port, last: u64, now: u64) -> Result<(), Refusal>
     ensures { result ≡ barred_of announce domain own last now }
 {
     if now < last {
-        return Ruling::Barred(Refusal::Now);
+        return Err(Refusal::Now);
     }
     if announce.header.domain != domain {
-        return Ruling::Barred(Refusal::Domain);
+        return Err(Refusal::Domain);
     }
     if announce.header.source.clock == own.clock {
-        return Ruling::Barred(Refusal::Own);
+        return Err(Refusal::Own);
     }
     if alternate(announce) {
-        return Ruling::Barred(Refusal::Alternate);
+        return Err(Refusal::Alternate);
     }
     if 255 <= announce.offer.steps {
-        return Ruling::Barred(Refusal::Steps);
+        return Err(Refusal::Steps);
     }
-    Ruling::Clear
+    Ok(())
 }
 
-// The seat that the table has for an Announce; each record is read once.
-#[tactic(auto, unfolding(crate::specs::Inner::seat_in))]
-fn seat_in(table: Table, sender: Port, sequence: u16, now: u64, interval: u32) -> Seat
-    ensures { result ≡ seat_in table.records sender sequence now interval }
-{
-    let r0 = table.records[0];
-    let r1 = table.records[1];
-    let r2 = table.records[2];
-    let r3 = table.records[3];
-    let r4 = table.records[4];
-    seat(
-        r0.stands(sender, sequence, now, interval),
-        r1.stands(sender, sequence, now, interval),
-        r2.stands(sender, sequence, now, interval),
-        r3.stands(sender, sequence, now, interval),
-        r4.stands(sender, sequence, now, interval),
-    )
-}
-
-// The refusals that look into the table; an Announce that none of them meets takes its place there.
-#[tactic(auto, using(crate::proofs::Standings::seat_below))]
-fn settle(mut table: Table, announce: Announce, interval: u32, now: u64) -> Admitted
-    ensures { result ≡ seated_of table announce interval now }
-{
-    let sender = announce.header.source;
-    let seat = seat_in(table, sender, announce.header.sequence, now, interval);
-    let at = seat.at;
-    let ruling = seat.ruling;
-    match ruling {
-        Ruling::Barred(refusal) => Admitted {
-            answer: Answer::Refused(refusal),
-            table,
-        },
-        Ruling::Clear => {
-            if seat.known {
-                let record = table.records[at];
-                table.records[at] = record.renewed(announce, now);
-                return Admitted {
-                    answer: Answer::Renewed(at),
-                    table,
-                };
+impl Table {
+    // An Announce at `now`. `last` is the unit's now (rule 1.8), a the announce exponent. A refusal leaves the table as it was. The settings come
+    // one by one: unit and door hold them in two types, and a third would be filled from each.
+    pub fn admit(
+        &mut self,
+        announce: Announce,
+        domain: u8,
+        own: Port,
+        a: u8,
+        last: u64,
+        now: u64,
+    ) -> Result<Entry, Refusal>
+        ensures value { result ≡ (admitted_of self.old announce domain own a last now).answer }
+        ensures after { self.new ≡ (admitted_of self.old announce domain own a last now).table }
+    {
+        barred(announce, domain, own, last, now)?;
+        let at = Moment::of(now, a);
+        let entry = seat(&self.standings(&announce.header, at))?;
+        match entry {
+            Entry::Renewed(place) => {
+                self.records[place] = self.records[place].renewed(announce, now);
             }
-            table.records[at] = Record::entered(announce, now);
-            Admitted {
-                answer: Answer::Entered(at),
-                table,
-            }
+            Entry::Entered(place) => self.records[place] = Record::entered(announce, now),
         }
-    }
-}
-
-// An Announce at `now`. `last` is the unit's now (rule 1.8), a the announce exponent.
-pub fn admit(
-    table: Table,
-    announce: Announce,
-    domain: u8,
-    own: Port,
-    a: u8,
-    last: u64,
-    now: u64,
-) -> Admitted
-    ensures { result ≡ admitted_of table announce domain own a last now }
-{
-    match barred(announce, domain, own, last, now) {
-        Ruling::Barred(refusal) => Admitted {
-            answer: Answer::Refused(refusal),
-            table,
-        },
-        Ruling::Clear => settle(table, announce, interval(a), now),
+        Ok(entry)
     }
 }

@@ -1,42 +1,50 @@
 // What the choice asks of one record.
-ghost use Rattle.std.specs.Prelude.{◌≡◌};
+ghost use Rattle.std.specs.Prelude.{◌≡◌, map};
 ghost use Rattle.rules_masters.specs.Inner.{candidate_of};
 
+use crate::comparison::{Merits, Nearness};
+use crate::moment::Moment;
 use crate::record::Record;
+use crate::table::Table;
 
-// What its last Announce says that the comparison asks for, and whether it is qualified. The widest fields come first: no octet lies between them.
+// What a qualified record's last Announce says that the comparison asks for.
 #[derive(Clone, Copy)]
 pub struct Candidate {
-    pub grandmaster: u64,
-    pub clock: u64, // of the sender
-    pub variance: u16,
-    pub steps: u16,
-    pub number: u16, // of the sender's port
-    pub priority1: u8,
-    pub class: u8,
-    pub accuracy: u8,
-    pub priority2: u8,
-    pub qualified: bool,
+    pub merits: Merits,
+    pub nearness: Nearness,
 }
 
 impl Record {
+    // None where it is not qualified.
     #[tactic(auto, unfolding(crate::specs::Inner::candidate_of))]
-    pub fn candidate(self, now: u64, interval: u32) -> Candidate
-        ensures { result ≡ candidate_of now interval self }
+    pub fn candidate(self, at: Moment) -> Option<Candidate>
+        ensures { result ≡ candidate_of at.now at.interval self }
     {
-        let source = self.announce.header.source;
+        if !self.qualified(at) {
+            return None;
+        }
         let offer = self.announce.offer;
-        Candidate {
-            grandmaster: offer.grandmaster,
-            clock: source.clock,
-            variance: offer.variance,
-            steps: offer.steps,
-            number: source.number,
+        let merits = Merits {
             priority1: offer.priority1,
             class: offer.class,
             accuracy: offer.accuracy,
+            variance: offer.variance,
             priority2: offer.priority2,
-            qualified: self.qualified(now, interval),
-        }
+            grandmaster: offer.grandmaster,
+        };
+        let nearness = Nearness {
+            steps: offer.steps,
+            sender: self.announce.header.source,
+        };
+        Some(Candidate { merits, nearness })
+    }
+}
+
+impl Table {
+    // Of each of the five.
+    pub fn candidates(&self, at: Moment) -> [Option<Candidate>; 5]
+        ensures { result ≡ map (candidate_of at.now at.interval) self.now.records }
+    {
+        self.records.map(|r| r.candidate(at))
     }
 }

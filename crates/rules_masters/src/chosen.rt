@@ -5,9 +5,10 @@ ghost use Rattle.rules_masters.specs.Holding.{fresh_chosen, same_master_of, is_m
 use crate::record::same_key;
 use wire_layout::message::Port;
 
-// None, or the master with this sender.
+// None, or the master with this sender. Stays a flag beside its value: where the flag in C's octets is 0, the sender beside it is read and shown as it
+// lies (`shown_of` of door_core, the clause of sinezhab_show).
 #[repr(C)]
-#[derive(Clone, Copy)]
+#[derive(Clone, Copy, Default)]
 pub struct Chosen {
     pub some: bool,
     pub sender: Port,
@@ -25,21 +26,18 @@ impl Decision {
         ensures { result ≡ master_of self }
     {
         match self {
-            Decision::Same(chosen) => chosen,
-            Decision::Changed(chosen) => chosen,
+            Decision::Same(chosen) | Decision::Changed(chosen) => chosen,
         }
     }
 
     pub fn wipes(self) -> bool
         ensures { result ≡ wipes_of self }
     {
-        match self {
-            Decision::Same(_) => false,
-            Decision::Changed(_) => true,
-        }
+        matches!(self, Decision::Changed(_))
     }
 
     // Its code at the door.
+    // Case by case: an enum whose cases carry values is no number by `as`.
     pub fn code(self) -> u8
         ensures { result ≡ code_of self }
     {
@@ -55,25 +53,20 @@ impl Chosen {
     pub fn fresh() -> Chosen
         ensures { result ≡ fresh_chosen }
     {
-        let sender = Port {
-            clock: 0,
-            number: 0,
-        };
-        Chosen {
-            some: false,
-            sender,
-        }
+        Chosen::default()
     }
 
     // From one to the other there is no new or lost master.
+    // Not the derived equality: two nones are the same, whatever sender lies beside.
     #[tactic(auto, unfolding(crate::specs::Holding::same_master_of))]
     pub fn same_master(self, other: Chosen) -> bool
         ensures { result ≡ same_master_of self other }
     {
         if self.some {
-            return other.is_master(self.sender);
+            other.is_master(self.sender)
+        } else {
+            !other.some
         }
-        !other.some
     }
 
     // This one is held, and the next is chosen.
@@ -81,9 +74,10 @@ impl Chosen {
         ensures { result ≡ decision_of self next }
     {
         if self.same_master(next) {
-            return Decision::Same(next);
+            Decision::Same(next)
+        } else {
+            Decision::Changed(next)
         }
-        Decision::Changed(next)
     }
 
     // The sender is the chosen master. Where not: NOT_MASTER.
@@ -91,9 +85,6 @@ impl Chosen {
     pub fn is_master(self, sender: Port) -> bool
         ensures { result ≡ is_master self sender }
     {
-        if self.some {
-            return same_key(self.sender, sender);
-        }
-        false
+        self.some && same_key(self.sender, sender)
     }
 }

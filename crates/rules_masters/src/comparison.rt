@@ -1,54 +1,36 @@
 // The comparison of two masters. Over all records it is no order: proofs/Examples.antt has three that go round.
 ghost use Rattle.std.specs.Prelude.{◌≡◌};
-ghost use Rattle.rules_masters.specs.Comparison.{smaller};
-ghost use Rattle.rules_masters.specs.Inner.{merits_in, nearness_in, beats_of};
+ghost use Rattle.rules_masters.specs.Inner.{beats_of};
 
 use crate::candidate::Candidate;
+use wire_layout::message::Port;
 
-// Which of two grandmasters wins.
-#[tactic(auto, unfolding(crate::specs::Comparison::smaller))]
-fn finer(a: Candidate, b: Candidate) -> bool
-    ensures { result ≡ smaller (merits_in a) (merits_in b) }
-{
-    if a.priority1 != b.priority1 {
-        return a.priority1 < b.priority1;
-    }
-    if a.class != b.class {
-        return a.class < b.class;
-    }
-    if a.accuracy != b.accuracy {
-        return a.accuracy < b.accuracy;
-    }
-    if a.variance != b.variance {
-        return a.variance < b.variance;
-    }
-    if a.priority2 != b.priority2 {
-        return a.priority2 < b.priority2;
-    }
-    a.grandmaster < b.grandmaster
+// Where two name different grandmasters the smaller of these wins: the derived order goes field by field, as they stand here.
+#[derive(Clone, Copy, PartialEq, Eq, PartialOrd, Ord)]
+pub struct Merits {
+    pub priority1: u8,
+    pub class: u8,
+    pub accuracy: u8,
+    pub variance: u16,
+    pub priority2: u8,
+    pub grandmaster: u64,
 }
 
-// Which of two ways to one grandmaster wins.
-#[tactic(auto, unfolding(crate::specs::Comparison::smaller))]
-fn nearer(a: Candidate, b: Candidate) -> bool
-    ensures { result ≡ smaller (nearness_in a) (nearness_in b) }
-{
-    if a.steps != b.steps {
-        return a.steps < b.steps;
-    }
-    if a.clock != b.clock {
-        return a.clock < b.clock;
-    }
-    a.number < b.number
+// Where they name the same the smaller of these does.
+#[derive(Clone, Copy, PartialEq, Eq, PartialOrd, Ord)]
+pub struct Nearness {
+    pub steps: u16,
+    pub sender: Port,
 }
 
 // a is better than b.
-#[tactic(auto, unfolding(crate::specs::Inner::beats_of))]
+#[tactic(auto, unfolding(crate::specs::Inner::beats_of, crate::specs::Comparison::smaller))]
 pub fn better(a: Candidate, b: Candidate) -> bool
     ensures { result ≡ beats_of a b }
 {
-    if a.grandmaster == b.grandmaster {
-        return nearer(a, b);
+    if a.merits.grandmaster == b.merits.grandmaster {
+        a.nearness < b.nearness
+    } else {
+        a.merits < b.merits
     }
-    finer(a, b)
 }

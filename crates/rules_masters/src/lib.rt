@@ -6,6 +6,7 @@ pub mod candidate;
 pub mod choice;
 pub mod chosen;
 pub mod comparison;
+pub mod moment;
 pub mod record;
 pub mod seats;
 pub mod standing;

@@ -1,12 +1,13 @@
-// What an Announce asks of one record, and what five of these answer it.
-ghost use Rattle.std.specs.Prelude.{◌≡◌};
+// What an Announce asks of one record.
+ghost use Rattle.std.specs.Prelude.{◌≡◌, map};
 ghost use Rattle.rules_masters.specs.Admitting.{standing_of};
 
+use crate::moment::Moment;
 use crate::record::{Record, same_key};
-use numbers::ruling::Ruling;
-use wire_layout::message::Port;
+use crate::table::Table;
+use wire_layout::message::Header;
 
-// Of one record, to an Announce of this sender with this sequenceId.
+// Of one record, to an Announce of this sender with this sequenceId. Three truths and no enum: `known` and then `live` are asked of all five, `repeats` of one.
 #[derive(Clone, Copy)]
 pub struct Standing {
     pub live: bool,
@@ -14,32 +15,27 @@ pub struct Standing {
     pub repeats: bool, // its last Announce has this sequenceId
 }
 
-// The place for an Announce, where its ruling is clear.
-#[derive(Clone, Copy)]
-pub struct Seat {
-    pub ruling: Ruling,
-    pub at: usize, // 0 to 4 in any case
-    pub known: bool, // the sender has a live record, at this place
+impl Record {
+    // To the Announce with this header.
+    #[tactic(auto, unfolding(crate::specs::Records::known_of, crate::specs::Admitting::standing_of))]
+    pub fn stands(self, heard: &Header, at: Moment) -> Standing
+        ensures { result ≡ standing_of heard.now.source heard.now.sequence at.now at.interval self }
+    {
+        let last = self.announce.header;
+        let live = self.live(at);
+        Standing {
+            live,
+            known: live && same_key(last.source, heard.source),
+            repeats: last.sequence == heard.sequence,
+        }
+    }
 }
 
-impl Record {
-    #[tactic(auto, unfolding(crate::specs::Records::known_of, crate::specs::Admitting::standing_of))]
-    pub fn stands(self, sender: Port, sequence: u16, now: u64, interval: u32) -> Standing
-        ensures { result ≡ standing_of sender sequence now interval self }
+impl Table {
+    // Of each of the five.
+    pub fn standings(&self, heard: &Header, at: Moment) -> [Standing; 5]
+        ensures { result ≡ map (standing_of heard.now.source heard.now.sequence at.now at.interval) self.now.records }
     {
-        let repeats = self.announce.header.sequence == sequence;
-        if self.live(now, interval) {
-            let known = same_key(self.announce.header.source, sender);
-            return Standing {
-                live: true,
-                known,
-                repeats,
-            };
-        }
-        Standing {
-            live: false,
-            known: false,
-            repeats,
-        }
+        self.records.map(|r| r.stands(heard, at))
     }
 }

@@ -15,8 +15,8 @@ impl Table {
     pub fn fresh() -> Table
         ensures { result ≡ fresh_table }
     {
-        let empty = Record::fresh();
-        let records = [empty; 5];
-        Table { records }
+        Table {
+            records: [Record::fresh(); 5],
+        }
     }
 }

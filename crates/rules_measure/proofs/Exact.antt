@@ -2,16 +2,15 @@
 use mathlib.Core.Path.{◌≡◌, refl, sym, ap, ◌∙◌}
 use mathlib.Core.Bool.{Bool, true, false}
 use mathlib.Core.List.{[], ◌∷◌}
-use Prim.Native.Nat.{ℕ, suc, ◌+◌, ◌<◌, ◌≤◌, ◌^◌, min}
+use Prim.Native.Nat.{ℕ, suc, ◌<◌, ◌≤◌, ◌^◌, min}
 use native.Mathlib.Omega.{arith}
-use borrow.Author.Tests.{le-leb, lt-leb}
-use lib.Dec.{leb}
 use lib.IntN.{ℤ, pos, negsuc, neg_ℤ, nat_abs, ◌+ℤ◌, ◌-ℤ◌, ◌*ℤ◌}
-use lib.Signed.{lt_z, le_z}
+use lib.Signed.{lt_z}
 use mir.Syntax.{w64}
 use mir.Val.{SFits}
+use Rattle.std.specs.Int.{int_min, int_max}
 use Rattle.numbers.specs.Integers.{up, dn, Within}
-use Rattle.numbers.proofs.Integers.{fits→, abs-parts, one_side, lt_z-true, lt_z-false, le_z-true, le_z-false}
+use Rattle.numbers.proofs.Integers.{fits→, abs-parts, one_side, lt_z-true, lt_z-false}
 use Rattle.numbers.specs.Rounding.{floor_z, half_to_even, rounded_of, held_within}
 use Rattle.numbers.specs.Stamps.{lasting}
 use Rattle.numbers.specs.declared.stamp.Span.{Span}
@@ -26,28 +25,23 @@ unfolding floor_z
 cut_small (pos n) f = omega (arith, fits→ f)
 cut_small (negsuc n) f = omega (arith, fits→ f)
 
--- a span of s seconds and n nanoseconds that lasts z, less two corrections, less one, and with another span
-pub less_two : (s n a b : ℤ) {z x y : ℤ} → Within (2 ^ 48) s → Within (2 ^ 32) n → Within (2 ^ 47) a → Within (2 ^ 47) b
-    → s *ℤ pos 1000000000 +ℤ n ≡ z → a ≡ x → b ≡ y → Lasts 48 49 (z -ℤ x -ℤ y) (record { seconds = s; nanoseconds = n -ℤ a -ℤ b })
+-- a span of s seconds and n nanoseconds that lasts z, less a correction, and with another span
+pub less_one : (s n a : ℤ) {z : ℤ} → Within (2 ^ 48) s → Within (2 ^ 32) n → Within (2 ^ 48) a → s *ℤ pos 1000000000 +ℤ n ≡ z
+    → Lasts 48 49 (z -ℤ a) (record { seconds = s; nanoseconds = n -ℤ a })
 unfolding lasting
-less_two s n a b ws wn wa wb e f g =
+less_one s n a ws wn wa e =
     record {
-      exact =
-          ring (v 0 ⊗ k (pos 1000000000) ⊕ (v 1 ⊖ v 2 ⊖ v 3)) (v 0 ⊗ k (pos 1000000000) ⊕ v 1 ⊖ v 2 ⊖ v 3) (s ∷ (n ∷ (a ∷ (b ∷ [])))) tt
-          ∙ rw (e, f, g);
-      seconds = ws;
-      nanoseconds = within_by _ (v 0 ⊖ v 1 ⊖ v 2) (n ∷ (a ∷ (b ∷ []))) (omega arith);
-    }
-
-pub less_one : (s n a : ℤ) {z x : ℤ} → Within (2 ^ 48) s → Within (2 ^ 32) n → Within (2 ^ 47) a → s *ℤ pos 1000000000 +ℤ n ≡ z → a ≡ x
-    → Lasts 48 49 (z -ℤ x) (record { seconds = s; nanoseconds = n -ℤ a })
-unfolding lasting
-less_one s n a ws wn wa e f =
-    record {
-      exact = ring (v 0 ⊗ k (pos 1000000000) ⊕ (v 1 ⊖ v 2)) (v 0 ⊗ k (pos 1000000000) ⊕ v 1 ⊖ v 2) (s ∷ (n ∷ (a ∷ []))) tt ∙ rw (e, f);
+      exact = ring (v 0 ⊗ k (pos 1000000000) ⊕ (v 1 ⊖ v 2)) (v 0 ⊗ k (pos 1000000000) ⊕ v 1 ⊖ v 2) (s ∷ (n ∷ (a ∷ []))) tt ∙ rw e;
       seconds = ws;
       nanoseconds = within_by _ (v 0 ⊖ v 1) (n ∷ (a ∷ [])) (omega arith);
     }
+
+-- two corrections in one
+pub two_cuts : (a b : ℤ) → Within (2 ^ 47) a → Within (2 ^ 47) b → Within (2 ^ 48) (a +ℤ b)
+two_cuts a b wa wb = within_by _ (v 0 ⊕ v 1) (a ∷ (b ∷ [])) (omega arith)
+
+pub less_both : (z a b : ℤ) → z -ℤ (a +ℤ b) ≡ z -ℤ a -ℤ b
+less_both z a b = ring (v 0 ⊖ (v 1 ⊕ v 2)) (v 0 ⊖ v 1 ⊖ v 2) (z ∷ (a ∷ (b ∷ []))) tt
 
 pub both : (a b : Span) → Within (2 ^ 48) a.seconds → Within (2 ^ 49) a.nanoseconds → Within (2 ^ 48) b.seconds → Within (2 ^ 49) b.nanoseconds
     → Lasts 49 50 (lasting a +ℤ lasting b) (record { seconds = a.seconds +ℤ b.seconds; nanoseconds = a.nanoseconds +ℤ b.nanoseconds })
@@ -82,27 +76,22 @@ module _ (s n : ℤ) (small : Within (2 ^ 50) n) where
       held-under horizon (s *ℤ pos 1000000000 +ℤ n) (omega arith)
       (omega (arith, lt_z-true s (negsuc 1999999999) h, one_side s, rep (v 0 ⊗ k (pos 1000000000) ⊕ v 1) (s ∷ (n ∷ []))))
 
-pub near-seconds : (s : ℤ) → lt_z (pos 2000000000) s ≡ false → lt_z s (negsuc 1999999999) ≡ false → Within 2000000000 s
-near-seconds s h j = omega (arith, lt_z-false (pos 2000000000) s h, lt_z-false s (negsuc 1999999999) j, one_side s)
+-- so that seconds beyond 2,000,000,000 may be taken as that
+pub clamped : (s n : ℤ) → Within (2 ^ 50) n
+    → held_within horizon (int_max (negsuc 1999999999) (int_min s (pos 2000000000)) *ℤ pos 1000000000 +ℤ n) ≡ held_within horizon (s *ℤ pos 1000000000 +ℤ n)
+clamped s n small = go (lt_z (pos 2000000000) s) refl (lt_z s (negsuc 1999999999)) refl
+  where
+    high : held_within horizon (pos 2000000000 *ℤ pos 1000000000 +ℤ n) ≡ pos horizon
+    high = sym (held-over horizon (pos 2000000000 *ℤ pos 1000000000 +ℤ n) (omega arith) (omega (arith, one_side n, rep (v 0 ⊗ k (pos 1000000000) ⊕ v 1) (pos 2000000000 ∷ (n ∷ [])))))
 
--- at the limit or beyond it, either way
-module _ (f : ℤ) (d l : ℕ) where
-  apart : nat_abs (f -ℤ pos d) ≡ up (f -ℤ pos d) + dn (f -ℤ pos d)
-  apart = abs-parts (f -ℤ pos d)
+    low : held_within horizon (negsuc 1999999999 *ℤ pos 1000000000 +ℤ n) ≡ neg_ℤ (pos horizon)
+    low = sym (held-under horizon (negsuc 1999999999 *ℤ pos 1000000000 +ℤ n) (omega arith) (omega (arith, one_side n, rep (v 0 ⊗ k (pos 1000000000) ⊕ v 1) (negsuc 1999999999 ∷ (n ∷ [])))))
 
-  pub beyond-over : le_z (pos d +ℤ pos l) f ≡ true → true ≡ leb l (nat_abs (f -ℤ pos d))
-  beyond-over h = sym (le-leb l (nat_abs (f -ℤ pos d)) (omega (arith, le_z-true (pos d +ℤ pos l) f h, apart, rep (v 0 ⊖ v 1) (f ∷ (pos d ∷ [])))))
-
-  pub beyond-under : le_z (pos d +ℤ pos l) f ≡ false → le_z f (pos d -ℤ pos l) ≡ leb l (nat_abs (f -ℤ pos d))
-  beyond-under h = go (le_z f (pos d -ℤ pos l)) refl
-    where
-      go : (b : Bool) → le_z f (pos d -ℤ pos l) ≡ b → b ≡ leb l (nat_abs (f -ℤ pos d))
-      go true e =
-          sym (le-leb l (nat_abs (f -ℤ pos d)) (omega (arith, le_z-true f (pos d -ℤ pos l) e, apart, rep (v 0 ⊖ v 1) (f ∷ (pos d ∷ [])), rep (v 0 ⊖ v 1) (pos d ∷ (pos l ∷ [])))))
-      go false e =
-          sym
-          (lt-leb l (nat_abs (f -ℤ pos d))
-          (omega (arith, le_z-false (pos d +ℤ pos l) f h, le_z-false f (pos d -ℤ pos l) e, apart, one_side (f -ℤ pos d), rep (v 0 ⊖ v 1) (f ∷ (pos d ∷ [])), rep (v 0 ⊖ v 1) (pos d ∷ (pos l ∷ [])))))
+    go : (a : Bool) → lt_z (pos 2000000000) s ≡ a → (b : Bool) → lt_z s (negsuc 1999999999) ≡ b
+        → held_within horizon (int_max (negsuc 1999999999) (int_min s (pos 2000000000)) *ℤ pos 1000000000 +ℤ n) ≡ held_within horizon (s *ℤ pos 1000000000 +ℤ n)
+    go true e b f = rw e (high ∙ whole-over s n small e)
+    go false e true f = rw (e, f) (low ∙ whole-under s n small f)
+    go false e false f = rw (e, f)
 
 -- a sum that is neither NEG nor LONG is halved to a delay from 0 to 9,999,999
 pub record IsDelay (sum : ℤ) : Type 0 where

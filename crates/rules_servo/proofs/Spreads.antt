@@ -14,36 +14,32 @@ use Rattle.numbers.specs.Integers.{Within}
 use Rattle.numbers.proofs.Integers.{within-mul}
 use Rattle.numbers.proofs.Ring.{v, ◌⊕◌, within_by}
 use Rattle.numbers.proofs.Signs.{abs-within}
-use Rattle.rules_servo.specs.declared.shown.Totals.{Totals}
 use Rattle.rules_servo.specs.Shows.{sum, squares, near, is_tracking}
 use Rattle.rules_servo.proofs.Elements.{at}
 
--- the first i offsets are passed: none beyond 99, and t has their sums
-pub record Passed (l : List ℤ) (i : ℕ) (t : Totals) : Type 0 where
-  pub small : Within (99 * i) t.sum
-  pub small_squares : Within (9801 * i) t.squares
-  pub all_sum : t.sum +ℤ sum (drop i l) ≡ sum l
-  pub all_squares : t.squares +ℤ squares (drop i l) ≡ squares l
+-- the first i offsets are passed: none beyond 99, and s and q are their sums
+pub record Passed (l : List ℤ) (i : ℕ) (s q : ℤ) : Type 0 where
+  pub small : Within (99 * i) s
+  pub small_squares : Within (9801 * i) q
+  pub all_sum : s +ℤ sum (drop i l) ≡ sum l
+  pub all_squares : q +ℤ squares (drop i l) ≡ squares l
   pub all_near : near (drop i l) ≡ near l
 
-pub passed_none : (l : List ℤ) → Passed l 0 (record { sum = pos 0; squares = pos 0 })
+pub passed_none : (l : List ℤ) → Passed l 0 (pos 0) (pos 0)
 passed_none l = record { small = omega arith; small_squares = omega arith; all_sum = +ℤ_idl (sum l); all_squares = +ℤ_idl (squares l); all_near = refl }
 
-abbrev pub added : Totals → ℤ → Totals
-added t x = record { sum = t.sum +ℤ x; squares = t.squares +ℤ x *ℤ x }
-
-module _ (l : List ℤ) (i : ℕ) (t : Totals) (h : i < length l) (p : Passed l i t) where
-  pub passed-next : nat_abs (at l i) ≤ 99 → Passed l (i + 1) (added t (at l i))
+module _ (l : List ℤ) (i : ℕ) (s q : ℤ) (h : i < length l) (p : Passed l i s q) where
+  pub passed-next : nat_abs (at l i) ≤ 99 → Passed l (i + 1) (s +ℤ at l i) (q +ℤ at l i *ℤ at l i)
   unfolding sum squares near
   passed-next n =
       let w = abs-within {n = 99} (at l i) n in
-      let s = within-mul w w in
+      let u = within-mul w w in
       let d = drop-cons l i (pos 0) h in
       record {
-        small = within_by _ (v 0 ⊕ v 1) (t.sum ∷ (at l i ∷ [])) (omega arith);
-        small_squares = within_by _ (v 0 ⊕ v 1) (t.squares ∷ ((at l i *ℤ at l i) ∷ [])) (omega arith);
-        all_sum = rw add-one (+ℤ_assoc t.sum (at l i) (sum (drop (suc i) l)) ∙ (rw d at p.all_sum));
-        all_squares = rw add-one (+ℤ_assoc t.squares (at l i *ℤ at l i) (squares (drop (suc i) l)) ∙ (rw d at p.all_squares));
+        small = within_by _ (v 0 ⊕ v 1) (s ∷ (at l i ∷ [])) (omega arith);
+        small_squares = within_by _ (v 0 ⊕ v 1) (q ∷ ((at l i *ℤ at l i) ∷ [])) (omega arith);
+        all_sum = rw add-one (+ℤ_assoc s (at l i) (sum (drop (suc i) l)) ∙ (rw d at p.all_sum));
+        all_squares = rw add-one (+ℤ_assoc q (at l i *ℤ at l i) (squares (drop (suc i) l)) ∙ (rw d at p.all_squares));
         all_near = rw add-one (rw (d, le-leb (nat_abs (at l i)) 99 n) at p.all_near);
       }
 
@@ -55,11 +51,11 @@ module _ (l : List ℤ) (i : ℕ) (t : Totals) (h : i < length l) (p : Passed l 
       rw (e, far)
 
 -- all ten are passed
-pub passed-all : (l : List ℤ) (i : ℕ) (t : Totals) → length l ≡ 10 → 10 ≤ i → Passed l i t → lt_z (pos 10 *ℤ t.squares -ℤ t.sum *ℤ t.sum) (pos 5000) ≡ is_tracking l
+pub passed-all : (l : List ℤ) (i : ℕ) (s q : ℤ) → length l ≡ 10 → 10 ≤ i → Passed l i s q → lt_z (pos 10 *ℤ q -ℤ s *ℤ s) (pos 5000) ≡ is_tracking l
 unfolding sum squares near is_tracking
-passed-all l i t e h p =
+passed-all l i s q e h p =
     let d : drop i l ≡ [] = drop_of_length-le l {i = i} (omega arith) in
-    let all : t.sum ≡ sum l = sym (+ℤ_idr t.sum) ∙ (rw d at p.all_sum) in
-    let both : t.squares ≡ squares l = sym (+ℤ_idr t.squares) ∙ (rw d at p.all_squares) in
+    let all : s ≡ sum l = sym (+ℤ_idr s) ∙ (rw d at p.all_sum) in
+    let both : q ≡ squares l = sym (+ℤ_idr q) ∙ (rw d at p.all_squares) in
     let none : near l ≡ true = sym (rw d at p.all_near) in
     rw (all, both, e, none)

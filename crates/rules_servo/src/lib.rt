@@ -25,42 +25,24 @@ pub struct Servo {
     pub ki: u16, // in thousandths
 }
 
-fn gain(thousandths: u16) -> i64
-    ensures { result ≡ pos thousandths }
-{
-    thousandths as i64
-}
-
 fn half_gain(thousandths: u16) -> u16
     ensures { result ≡ half_gain thousandths }
 {
-    if thousandths < 2 { 1 } else { thousandths / 2 }
+    (thousandths / 2).max(1)
 }
 
 // 128 times the seconds between two samples.
 fn pace(k: u8) -> i64
     ensures { result ≡ pos (2 ^ (7 - k)) }
 {
-    if k < 7 {
-        let s: u64 = 1 << (7 - k);
-        s as i64
-    } else {
-        1
-    }
+    i64::from(1u8 << 7u8.saturating_sub(k))
 }
 
 // The limit in 1/128,000 ppb.
 fn limit_of(limit: Ppb) -> u64
     ensures { result ≡ limit_of limit.0 }
 {
-    let ppb = limit.0;
-    if ppb < 0 {
-        0
-    } else if ppb < 100_000 {
-        ppb as u64 * 128_000
-    } else {
-        12_800_000_000
-    }
+    limit.0.clamp(0, 100_000) as u64 * 128_000
 }
 
 impl Servo {
@@ -70,7 +52,7 @@ impl Servo {
     {
         Servo {
             integral: 0,
-            ten: Ten::empty(),
+            ten: Ten::default(),
             output: Ppb(0),
             kp,
             ki,
@@ -83,13 +65,12 @@ impl Servo {
     {
         let x = rounding::within(offset.0, 100_000_000);
         let units = limit_of(limit);
-        let gained = rounding::within(self.integral, FAR) + gain(self.ki) * x * pace(k);
+        let gained = rounding::within(self.integral, FAR) + i64::from(self.ki) * x * pace(k);
         let integral = rounding::within(gained, units);
-        let output = rounding::within(gain(self.kp) * x * 128 + integral, units);
-        let ten = self.ten;
+        let output = rounding::within(i64::from(self.kp) * x * 128 + integral, units);
         Servo {
             integral,
-            ten: ten.with(x as i32),
+            ten: self.ten.with(x as i32),
             output: Ppb(rounding::whole_ppb(output) as i32),
             kp: self.kp,
             ki: self.ki,
@@ -103,7 +84,7 @@ impl Servo {
         self.kp = half_gain(self.kp);
         self.ki = half_gain(self.ki);
         self.integral = 0;
-        self.ten = Ten::empty();
+        self.ten = Ten::default();
         self
     }
 
@@ -112,8 +93,7 @@ impl Servo {
         ensures { result ≡ stepped_servo self (held_offset offset.0) k (limit_of limit.0) }
     {
         let steered = self.steered(offset, k, limit);
-        let ten = steered.ten;
-        if ten.swings() {
+        if steered.ten.swings() {
             steered.halved()
         } else {
             steered

@@ -1,4 +1,5 @@
 -- Accepted settings: they are those given, each in its range, and so whatever clamps a setting leaves them as they were set.
+use Rattle.std.specs.Prelude.{Ok, Err}
 use mathlib.Core.Path.{◌≡◌, refl, sym, subst, ◌∙◌}
 use mathlib.Core.Bool.{Bool, true, false, cond, ◌&&◌, not}
 use Prim.Native.Nat.{ℕ, ◌≤◌, min}
@@ -10,24 +11,23 @@ use Rattle.numbers.specs.Orders.{of_making}
 use Rattle.rules_watch.specs.Settings.{size_of, least_of, wait_of}
 use Rattle.rules_settings.specs.declared.Settings.{Settings}
 use Rattle.rules_settings.specs.declared.Given.{Given}
-use Rattle.rules_settings.specs.declared.Set.TheVariants.{Accepted, Refused}
 use Rattle.rules_settings.specs.Ranges.{steering_fits, watch_fits, as_given, set_unless_barred, settings_of}
 use Rattle.rules_settings.proofs.Narrowing.{Ranges, split, in-ranges}
 
 -- the answer by its test, without the list of refusals
-making-order : (b : Bool) (s : Settings) → set_unless_barred (first_of (of_making (not b))) s ≡ cond b (Accepted s) (Refused Outside)
+making-order : (b : Bool) (s : Settings) → set_unless_barred (first_of (of_making (not b))) s ≡ cond b (Ok s) (Err Outside)
 unfolding first_of
 making-order true s = refl
 making-order false s = refl
 
-pub settings-is : (g : Given) → settings_of g ≡ cond (steering_fits g && watch_fits g) (Accepted (as_given g)) (Refused Outside)
+pub settings-is : (g : Given) → settings_of g ≡ cond (steering_fits g && watch_fits g) (Ok (as_given g)) (Err Outside)
 settings-is g = making-order (steering_fits g && watch_fits g) (as_given g)
 
-module _ (g : Given) (s : Settings) (e : settings_of g ≡ Accepted s) where
+module _ (g : Given) (s : Settings) (e : settings_of g ≡ Ok s) where
   pub accepted-ranges : Ranges s
   accepted-ranges = go (steering_fits g && watch_fits g) refl (sym (settings-is g) ∙ e)
     where
-      go : (b : Bool) → (steering_fits g && watch_fits g) ≡ b → cond b (Accepted (as_given g)) (Refused Outside) ≡ Accepted s → Ranges s
+      go : (b : Bool) → (steering_fits g && watch_fits g) ≡ b → cond b (Ok (as_given g)) (Err Outside) ≡ Ok s → Ranges s
       go true p f =
           let q : as_given g ≡ s = cc in
           let h = split (steering_fits g) (watch_fits g) p in

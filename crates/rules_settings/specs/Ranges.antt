@@ -1,15 +1,17 @@
 -- The thirteen settings and their ranges, over words of any size (rules 4.1 to 4.13). No range is stated anywhere else.
-use Rattle.std.specs.Prelude.{Bool, not, ◌&&◌, ℤ, pos}
+use Rattle.std.specs.Prelude.{Bool, not, ◌&&◌, ℤ, pos, Ok, Err, Result}
 use Rattle.std.specs.Int.Signed.{le_z, lt_z}
 use Rattle.numbers.specs.Integers.{up}
-use Rattle.numbers.specs.declared.ruling.Ruling.{Ruling}
-use Rattle.numbers.specs.declared.ruling.Ruling.TheVariants.{Clear, Barred}
+use Rattle.numbers.specs.Grounds.{Ruling}
 use Rattle.numbers.specs.Grounds.{first_of}
 use Rattle.numbers.specs.Orders.{of_making}
 use Rattle.rules_settings.specs.declared.Settings.{Settings}
 use Rattle.rules_settings.specs.declared.Given.{Given}
-use Rattle.rules_settings.specs.declared.Set.{Set}
-use Rattle.rules_settings.specs.declared.Set.TheVariants.{Accepted, Refused}
+use Rattle.numbers.specs.declared.refusal.Refusal.{Refusal}
+
+-- what making answers: the settings, or the refusal
+abbrev pub Set : Type 0
+Set = Result Settings Refusal
 
 -- not below low, and at most high
 abbrev pub is_between : ℤ → ℤ → ℤ → Bool
@@ -42,8 +44,8 @@ as_given g =
     }
 
 abbrev pub set_unless_barred : Ruling → Settings → Set
-set_unless_barred (Barred r) s = Refused r
-set_unless_barred Clear s = Accepted s
+set_unless_barred (Err r) s = Err r
+set_unless_barred (Ok _) s = Ok s
 
 -- the settings, unless one is out of its range (rule 3.54)
 abbrev pub settings_of : Given → Set

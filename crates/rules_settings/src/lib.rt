@@ -8,10 +8,11 @@ ghost use Rattle.rules_settings.specs.Inner.{narrowed_of};
 
 use numbers::refusal::Refusal;
 use numbers::units::Ppb;
+use rules_watch::settings::WatchSettings;
 use wire_layout::message::Port;
 
 #[repr(C)]
-#[derive(Clone, Copy)]
+#[derive(Clone, Copy, Default)]
 pub struct Settings {
     pub domain: u8,
     pub own: Port,
@@ -20,7 +21,7 @@ pub struct Settings {
     pub kp: u16, // in thousandths
     pub ki: u16, // in thousandths
     pub limit: Ppb,
-    pub watch: rules_watch::settings::WatchSettings,
+    pub watch: WatchSettings,
 }
 
 // The settings as they are given: words of any size.
@@ -42,65 +43,34 @@ pub struct Given {
     pub jump: i64,
 }
 
-#[derive(Clone, Copy)]
-pub enum Set {
-    Accepted(Settings),
-    Refused(Refusal),
-}
-
 impl Settings {
     // The settings of no unit: zeros.
     pub fn bare() -> Settings
         ensures { result ≡ bare_settings }
     {
-        let own = Port {
-            clock: 0,
-            number: 0,
-        };
-        let watch = rules_watch::settings::WatchSettings {
-            window: 0,
-            minimum: 0,
-            holdoff: 0,
-            tolerance: 0,
-            spike: 0,
-            jump: 0,
-        };
-        Settings {
-            domain: 0,
-            own,
-            announce: 0,
-            sync: 0,
-            kp: 0,
-            ki: 0,
-            limit: Ppb(0),
-            watch,
-        }
+        Settings::default()
     }
 }
 
 fn between(low: i64, x: i64, high: i64) -> bool
     ensures { result ≡ is_between low x high }
 {
-    if x < low { false } else { x <= high }
+    (low..=high).contains(&x)
 }
 
+// A function, since a chain of `&&` leaves each test's end open in the proof.
 fn both(a: bool, b: bool) -> bool
     ensures { result ≡ (a && b) }
 {
-    if a { b } else { false }
+    a && b
 }
 
 // From 0 to `high`; a word beyond gives the nearer end.
+// Clamped and not TryFrom, which refuses: here any word gets an answer.
 fn narrow(x: i64, high: u32) -> u32
     ensures { result ≡ min high (up x) }
 {
-    if x < 0 {
-        0
-    } else if (high as i64) < x {
-        high
-    } else {
-        x as u32
-    }
+    x.clamp(0, i64::from(high)) as u32
 }
 
 impl Given {
@@ -134,7 +104,7 @@ impl Given {
     fn narrowed(self) -> Settings
         ensures { result ≡ narrowed_of self }
     {
-        let watch = rules_watch::settings::WatchSettings {
+        let watch = WatchSettings {
             window: narrow(self.window, 255) as u8,
             minimum: narrow(self.minimum, 255) as u8,
             holdoff: narrow(self.holdoff, 255) as u8,
@@ -142,10 +112,9 @@ impl Given {
             spike: narrow(self.spike, 4_294_967_295),
             jump: narrow(self.jump, 4_294_967_295),
         };
-        let own = self.own;
         Settings {
             domain: self.domain,
-            own,
+            own: self.own,
             announce: narrow(self.announce, 255) as u8,
             sync: narrow(self.sync, 255) as u8,
             kp: narrow(self.kp, 65_535) as u16,
@@ -156,14 +125,15 @@ impl Given {
     }
 
     // The settings, or SETTINGS for any outside its range.
-    pub fn settings(self) -> Set
+    // Two ifs: with && the proof of the second end stays open.
+    pub fn settings(self) -> Result<Settings, Refusal>
         ensures { result ≡ settings_of self }
     {
         if self.steering_fits() {
             if self.watch_fits() {
-                return Set::Accepted(self.narrowed());
+                return Ok(self.narrowed());
             }
         }
-        Set::Refused(Refusal::Settings)
+        Err(Refusal::Settings)
     }
 }

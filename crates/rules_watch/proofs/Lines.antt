@@ -1,4 +1,5 @@
 -- What the line is: its denominator is above 0, no other line is nearer to the samples, and no f64 is nearer to its slope.
+use Rattle.std.specs.Prelude.{Ok, Err}
 use mathlib.Core.Path.{◌≡◌, refl, sym, subst, ◌∙◌}
 use mathlib.Core.Bool.{Bool, true, false, cond, ◌&&◌}
 use mathlib.Core.List.{List, [], ◌∷◌}
@@ -17,7 +18,6 @@ use Rattle.rules_watch.specs.declared.settings.WatchSettings.{WatchSettings}
 use Rattle.rules_watch.specs.declared.window.Sample.{Sample}
 use Rattle.rules_watch.specs.declared.totals.Totals.{Totals}
 use Rattle.rules_watch.specs.declared.totals.Line.{Line}
-use Rattle.rules_watch.specs.declared.Drift.TheVariants as drifts
 use Rattle.rules_watch.specs.declared.Watch.{Watch}
 use Rattle.rules_watch.specs.Settings.{size_of, least_of, wait_of}
 use Rattle.rules_watch.specs.Window.{last_n}
@@ -55,10 +55,10 @@ through-right l m h e =
     }
 
 -- whenever a line is given it is right
-pub line-right : (t : WatchSettings) (taken : ℕ) (window : List Sample) → Small window → length window ≤ 128 → (q : Line) → line_if_due t taken window ≡ drifts.Line q → Right window q
+pub line-right : (t : WatchSettings) (taken : ℕ) (window : List Sample) → Small window → length window ≤ 128 → (q : Line) → line_if_due t taken window ≡ Ok q → Right window q
 line-right t taken window m h q e = go (leb (wait_of t) taken) (leb (least_of t) (length (points_of window))) refl (sym (line-is t taken window) ∙ e)
   where
-    go : (a b : Bool) → leb (least_of t) (length (points_of window)) ≡ b → cond (a && b) (drifts.Line (line_through (points_of window))) (drifts.Refused NotReady) ≡ drifts.Line q → Right window q
+    go : (a b : Bool) → leb (least_of t) (length (points_of window)) ≡ b → cond (a && b) (Ok (line_through (points_of window))) (Err NotReady) ≡ Ok q → Right window q
     go true true p e =
         let f : line_through (points_of window) ≡ q = cc in
         subst (Right window) f (through-right window m h (omega (arith, leb-true (least_of t) (length (points_of window)) p)))
@@ -70,5 +70,5 @@ unfolding last_n
 last-length n l h = simp length-drop (omega arith)
 
 -- of any watch that a fresh one can become
-pub drift-right : {t : WatchSettings} {h : Since} {w : Watch} → Good t h w → (q : Line) → watch_line t w ≡ drifts.Line q → Right (window_of t h.samples) q
+pub drift-right : {t : WatchSettings} {h : Since} {w : Watch} → Good t h w → (q : Line) → watch_line t w ≡ Ok q → Right (window_of t h.samples) q
 drift-right {t} {h} {w} g q e = line-right t w.head.taken (window_of t h.samples) (small-last (size_of t) g.small) (last-length (size_of t) h.samples (omega arith)) q (rw g.holds at e)

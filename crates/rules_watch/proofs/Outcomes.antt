@@ -1,4 +1,5 @@
 -- The two calls by their tests, without the list of refusals; and the outcome of a pulse asks for the last sample held alone.
+use Rattle.std.specs.Prelude.{Ok, Err, Some, None}
 use mathlib.Core.Path.{◌≡◌, refl}
 use mathlib.Core.Bool.{Bool, true, false, cond, not, ◌||◌}
 use mathlib.Core.List.{List}
@@ -13,40 +14,37 @@ use Rattle.numbers.specs.Orders.{of_tick, of_line}
 use Rattle.rules_watch.specs.declared.settings.WatchSettings.{WatchSettings}
 use Rattle.rules_watch.specs.declared.window.Sample.{Sample}
 use Rattle.rules_watch.specs.declared.totals.Line as lines
-use Rattle.rules_watch.specs.declared.judging.Outcome.{Outcome}
-use Rattle.rules_watch.specs.declared.judging.Outcome.TheVariants.{Refuse}
-use Rattle.rules_watch.specs.declared.Drift.TheVariants.{Line, Refused}
+use Rattle.rules_watch.specs.declared.judging.Judged.{Judged}
 use Rattle.rules_watch.specs.declared.Watch.{Watch}
 use Rattle.rules_watch.specs.Totals.{points_of, line_through}
 use Rattle.rules_watch.specs.Rules.{Since, on_last, outside_of, inside, outcome, unless_barred, due, line_if_due, line_unless_barred}
 use Rattle.rules_watch.specs.Watch.{since_of}
-use Rattle.rules_watch.specs.Inner.{newest_of, latest}
+use Rattle.rules_watch.specs.Inner.{newest_in, latest_of, latest}
 use Rattle.rules_watch.proofs.Ring.{on-last}
-use Rattle.rules_watch.proofs.Places.{newest_in, watch-none, watch-last}
+use Rattle.rules_watch.proofs.Places.{watch-none, watch-last}
 
-pub tick-order : (outside : Bool) (o : Outcome) → unless_barred (first_of (of_tick outside)) o ≡ cond outside (Refuse Tick) o
+pub tick-order : (outside : Bool) (j : Judged) → unless_barred (first_of (of_tick outside)) j ≡ cond outside (Err Tick) (Ok j)
 unfolding first_of
-tick-order true o = refl
-tick-order false o = refl
+tick-order true j = refl
+tick-order false j = refl
 
-pub line-order : (ready : Bool) (q : lines.Line) → line_unless_barred (first_of (of_line (not ready))) q ≡ cond ready (Line q) (Refused NotReady)
+pub line-order : (ready : Bool) (q : lines.Line) → line_unless_barred (first_of (of_line (not ready))) q ≡ cond ready (Ok q) (Err NotReady)
 unfolding first_of
 line-order true q = refl
 line-order false q = refl
 
 pub outcome-is : (t : WatchSettings) (h : Since) (reference clock : ℤ)
-    → outcome t h reference clock ≡ cond (outside_of reference || outside_of clock) (Refuse Tick) (inside t h reference clock)
+    → outcome t h reference clock ≡ cond (outside_of reference || outside_of clock) (Err Tick) (Ok (inside t h reference clock))
 outcome-is t h reference clock = tick-order (outside_of reference || outside_of clock) (inside t h reference clock)
 
-pub line-is : (t : WatchSettings) (taken : ℕ) (window : List Sample) → line_if_due t taken window ≡ cond (due t taken window) (Line (line_through (points_of window))) (Refused NotReady)
+pub line-is : (t : WatchSettings) (taken : ℕ) (window : List Sample) → line_if_due t taken window ≡ cond (due t taken window) (Ok (line_through (points_of window))) (Err NotReady)
 line-is t taken window = line-order (due t taken window) (line_through (points_of window))
 
-pub told-latest : (t : WatchSettings) (w : Watch) (reference clock : ℤ)
-    → outcome t (since_of w) reference clock ≡ outcome t (latest (eqb w.head.len 0) w.head.origin (newest_of w)) reference clock
+pub told-latest : (t : WatchSettings) (w : Watch) (reference clock : ℤ) → outcome t (since_of w) reference clock ≡ outcome t (latest w.head.origin (latest_of w)) reference clock
 unfolding on_last
 told-latest t w reference clock = go (eqb w.head.len 0) refl
   where
-    go : (b : Bool) → eqb w.head.len 0 ≡ b → outcome t (since_of w) reference clock ≡ outcome t (latest b w.head.origin (newest_of w)) reference clock
+    go : (b : Bool) → eqb w.head.len 0 ≡ b → outcome t (since_of w) reference clock ≡ outcome t (latest w.head.origin (cond b None (Some (newest_in w)))) reference clock
     go true e = rw (watch-none w (eqb-true w.head.len 0 e))
     go false e =
         let h = watch-last w (pos_of_ne-zero (eqb-false w.head.len 0 e)) in

@@ -16,8 +16,8 @@ use Rattle.rules_watch.specs.declared.Watch.{Watch}
 use Rattle.rules_watch.specs.Window.{last_n, rot, is_valid, mark_of, sample_at, numbers_from, ring_of, held_in}
 use Rattle.rules_watch.specs.Totals.{up_from, points, points_of}
 use Rattle.rules_watch.specs.Watch.{samples_in, fresh_watch, pushed, watch_line, unreferenced, line_in}
-use Rattle.rules_watch.specs.Inner.{blank}
-use Rattle.rules_watch.proofs.Ring.{held-pushed, held_none, held-last}
+use Rattle.rules_watch.specs.Inner.{blank, newest_in}
+use Rattle.rules_watch.proofs.Ring.{held-pushed, held_none, held-last, length_last, last-at}
 
 -- ---- the ring's places
 count-length : (k n : ℕ) → length (numbers_from k n) ≡ n
@@ -100,14 +100,23 @@ pub watch-fresh : samples_in fresh_watch ≡ []
 watch-fresh = watch-none fresh_watch refl
 
 -- the sample taken last comes after the others
-abbrev pub newest_in : Watch → Sample
-newest_in w = sample_at w.references w.ys w.marks ((w.head.next % 128 + 127) % 128)
-
 pub watch-last : (w : Watch) → 0 < w.head.len → (l : List Sample) × (samples_in w ≡ l ++ (newest_in w ∷ []))
 unfolding samples_in
 watch-last w h =
     let g = held-last w.head (ring_in w) (ring-length w.references w.ys w.marks) h in
     (g.0, g.1 ∙ ap (λ (s : Sample). g.0 ++ (s ∷ [])) (ring-at w.references w.ys w.marks ((w.head.next % 128 + 127) % 128) (omega arith)))
+
+-- how many are held, and the k-th of them
+pub held-length : (w : Watch) → length (samples_in w) ≡ min w.head.len 128
+unfolding samples_in held_in
+held-length w = length_last (w.head.next % 128) (min w.head.len 128) (ring_in w) (ring-length w.references w.ys w.marks) (omega arith) (omega arith)
+
+pub held-at : (w : Watch) (k : ℕ) → k < min w.head.len 128
+    → get_or (samples_in w) k blank ≡ sample_at w.references w.ys w.marks ((w.head.next % 128 + (128 - min w.head.len 128) + k) % 128)
+unfolding samples_in held_in
+held-at w k h =
+    last-at (w.head.next % 128) (min w.head.len 128) k (ring_in w) blank (ring-length w.references w.ys w.marks) (omega arith) (omega arith) h
+    ∙ ring-at w.references w.ys w.marks ((w.head.next % 128 + (128 - min w.head.len 128) + k) % 128) (omega arith)
 
 -- ---- a line asks for no reference
 bare : Sample → Sample

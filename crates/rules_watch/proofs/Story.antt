@@ -1,4 +1,5 @@
 -- The watch's memory against the samples taken since the wipe: a good watch tells them, a fresh one is good, and each call keeps it so.
+use Rattle.std.specs.Prelude.{Ok, Err}
 use mathlib.Core.Path.{◌≡◌, refl, sym, ap, ◌∙◌}
 use mathlib.Core.Bool.{Bool, true, false, cond, ◌||◌}
 use mathlib.Core.List.{List, [], ◌∷◌, ◌++◌}
@@ -15,11 +16,11 @@ use Rattle.rules_watch.specs.declared.settings.WatchSettings.{WatchSettings}
 use Rattle.rules_watch.specs.declared.window.Sample.{Sample}
 use Rattle.rules_watch.specs.declared.Watch.{Watch}
 use Rattle.rules_watch.specs.declared.Pulse.TheVariants.{Back, Range, Jump}
-use Rattle.rules_watch.specs.declared.judging.Outcome.{Outcome}
-use Rattle.rules_watch.specs.declared.judging.Outcome.TheVariants.{Refuse, Wipe, Take}
+use Rattle.rules_watch.specs.declared.judging.Judged.{Judged}
+use Rattle.rules_watch.specs.declared.judging.Judged.TheVariants.{Wipe, Take}
 use Rattle.rules_watch.specs.Settings.{size_of, wait_of}
 use Rattle.rules_watch.specs.Window.{last_n}
-use Rattle.rules_watch.specs.Rules.{Since, fresh_since, pulse_of, wipes_of, apart, outside_of, sample_after, settled, followed, on_last, inside, outcome, since_by, Stamps, since_after, window_of, line_since}
+use Rattle.rules_watch.specs.Rules.{Outcome, Since, fresh_since, pulse_of, wipes_of, apart, outside_of, sample_after, settled, followed, on_last, inside, outcome, since_by, Stamps, since_after, window_of, line_since}
 use Rattle.rules_watch.specs.Watch.{samples_in, fresh_watch, sample_taken, taken_by, since_of, taken_of, next_watch, watch_after, watch_line}
 use Rattle.rules_watch.proofs.Ring.{last_none, last_on, last-again}
 use Rattle.rules_watch.proofs.Places.{Full, watch-pushed, full-pushed, full-fresh, watch-fresh}
@@ -65,27 +66,30 @@ pub same_outcome : {t : WatchSettings} {h : Since} {w : Watch} → Good t h w �
 same_outcome {t} {h} {w} g reference clock = rw (g.holds, g.origin, last_on _ _ (size_of t) h.samples (omega arith))
 
 -- a pulse that wipes is one of those that do, and a sample that is taken is below a second
-abbrev pub Proper : Outcome → Type 0
-Proper (Refuse r) = Unit
-Proper (Wipe p) = wipes_of p ≡ true
-Proper (Take o s) = nat_abs s.y < 1_000_000_000
+abbrev pub ProperlyJudged : Judged → Type 0
+ProperlyJudged (Wipe p) = wipes_of p ≡ true
+ProperlyJudged (Take o s) = nat_abs s.y < 1_000_000_000
 
-proper-settled : (t : WatchSettings) (o : ℤ) (p : Sample) (r y : ℤ) → nat_abs y < 1_000_000_000 → Proper (settled t o p r y)
+abbrev pub Proper : Outcome → Type 0
+Proper (Err r) = Unit
+Proper (Ok j) = ProperlyJudged j
+
+proper-settled : (t : WatchSettings) (o : ℤ) (p : Sample) (r y : ℤ) → nat_abs y < 1_000_000_000 → ProperlyJudged (settled t o p r y)
 proper-settled t o p r y h = go (ltb t.jump (apart y p.y))
   where
-    go : (b : Bool) → Proper (cond b (Wipe Jump) (Take o (sample_after t p r y)))
+    go : (b : Bool) → ProperlyJudged (cond b (Wipe Jump) (Take o (sample_after t p r y)))
     go true = refl
     go false = h
 
-proper-judged : (t : WatchSettings) (o : ℤ) (p : Sample) (r y : ℤ) → Proper (followed t o p r y)
+proper-judged : (t : WatchSettings) (o : ℤ) (p : Sample) (r y : ℤ) → ProperlyJudged (followed t o p r y)
 proper-judged t o p r y = go (le_z r p.reference) (leb 1_000_000_000 (nat_abs y)) refl
   where
-    go : (a b : Bool) → leb 1_000_000_000 (nat_abs y) ≡ b → Proper (cond a (Wipe Back) (cond b (Wipe Range) (settled t o p r y)))
+    go : (a b : Bool) → leb 1_000_000_000 (nat_abs y) ≡ b → ProperlyJudged (cond a (Wipe Back) (cond b (Wipe Range) (settled t o p r y)))
     go true b e = refl
     go false true e = refl
     go false false e = proper-settled t o p r y (leb-false 1_000_000_000 (nat_abs y) e)
 
-proper-last : (first : Outcome) (f : Sample → Outcome) (l : List Sample) → Proper first → ((s : Sample) → Proper (f s)) → Proper (on_last first f l)
+proper-last : (first : Judged) (f : Sample → Judged) (l : List Sample) → ProperlyJudged first → ((s : Sample) → ProperlyJudged (f s)) → ProperlyJudged (on_last first f l)
 unfolding on_last
 proper-last first f [] h k = h
 proper-last first f (s ∷ []) h k = k s
@@ -95,12 +99,12 @@ proper-last first f (s ∷ r ∷ l) h k = proper-last first f (r ∷ l) h k
 pub proper : (t : WatchSettings) (h : Since) (r c : ℤ) → Proper (outcome t h r c)
 proper t h r c = rw (outcome-is t h r c) (go (outside_of r || outside_of c))
   where
-    go : (b : Bool) → Proper (cond b (Refuse Tick) (inside t h r c))
+    go : (b : Bool) → Proper (cond b (Err Tick) (Ok (inside t h r c)))
     go true = tt
     go false = proper-last _ _ h.samples (omega arith) (λ p. proper-judged t h.origin p r (c -ℤ r -ℤ h.origin))
 
 -- a sample taken stays told
-pub good-accepted : {t : WatchSettings} {h : Since} {w : Watch} → Good t h w → (o : ℤ) (s : Sample) → nat_abs s.y < 1_000_000_000 → Good t (since_by h (Take o s)) (sample_taken t w o s).watch
+pub good-accepted : {t : WatchSettings} {h : Since} {w : Watch} → Good t h w → (o : ℤ) (s : Sample) → nat_abs s.y < 1_000_000_000 → Good t (since_by h (Ok (Take o s))) (sample_taken t w o s).watch
 good-accepted {t} {h} {w} g o s k = record {
   full = full-pushed (size_of t) o s w g.full;
   holds = watch-pushed (size_of t) o s w g.full (omega arith) (omega arith) ∙ rw g.holds (last-again (size_of t) h.samples s (omega arith));
@@ -122,9 +126,9 @@ next-taken t w o s = go s.valid
 
 -- after any outcome
 good-leaves : {t : WatchSettings} {h : Since} {w : Watch} → Good t h w → (o : Outcome) → Proper o → Good t (since_by h o) (next_watch (taken_by t w o))
-good-leaves g (Refuse r) k = g
-good-leaves {t} g (Wipe p) k = rw k (fresh-good t)
-good-leaves {t} {h} {w} g (Take o s) k = rw (next-taken t w o s) (good-accepted g o s k)
+good-leaves g (Err r) k = g
+good-leaves {t} g (Ok (Wipe p)) k = rw k (fresh-good t)
+good-leaves {t} {h} {w} g (Ok (Take o s)) k = rw (next-taken t w o s) (good-accepted g o s k)
 
 -- ---- the two calls, told from the samples since the wipe
 pub good-takes : {t : WatchSettings} {h : Since} {w : Watch} → Good t h w → (reference clock : ℤ) → taken_of t w reference clock ≡ taken_by t w (outcome t h reference clock)

@@ -1,5 +1,5 @@
 -- What only inner contracts cite: nobody needs to believe it.
-use Rattle.std.specs.Prelude.{Bool, true, false, cond, List, [], ◌∷◌, ℕ, ◌+◌, ◌*◌, ◌%◌, ℤ, pos, ◌+ℤ◌, ◌-ℤ◌, ◌*ℤ◌, get_or}
+use Rattle.std.specs.Prelude.{false, cond, List, [], ◌∷◌, Option, Some, None, ℕ, ◌+◌, ◌*◌, ◌%◌, eqb, ℤ, pos, ◌+ℤ◌, ◌-ℤ◌, ◌*ℤ◌}
 use Rattle.numbers.specs.Integers.{Within}
 use Rattle.rules_fit.specs.Points.{Point, count, sum_x, sum_xx, sum_y, sum_xy}
 use Rattle.rules_fit.specs.Nearest.{nearest_float}
@@ -7,20 +7,24 @@ use Rattle.rules_watch.specs.declared.window.Sample.{Sample}
 use Rattle.rules_watch.specs.declared.totals.Totals.{Totals}
 use Rattle.rules_watch.specs.declared.totals.Line.{Line}
 use Rattle.rules_watch.specs.declared.Watch.{Watch}
-use Rattle.rules_watch.specs.Window.{is_valid}
+use Rattle.rules_watch.specs.Window.{is_valid, sample_at}
 use Rattle.rules_watch.specs.Rules.{Since}
 
 -- a cleared place
 abbrev pub blank : Sample
 blank = record { reference = pos 0; y = pos 0; valid = false }
 
--- of the sample taken last what the rules ask for: they pass over its validity
-abbrev pub newest_of : Watch → Sample
-newest_of w = record { reference = get_or w.references ((w.head.next % 128 + 127) % 128) (pos 0); y = get_or w.ys ((w.head.next % 128 + 127) % 128) (pos 0); valid = true }
+-- the sample taken last, where any is held
+abbrev pub newest_in : Watch → Sample
+newest_in w = sample_at w.references w.ys w.marks ((w.head.next % 128 + 127) % 128)
+
+abbrev pub latest_of : Watch → Option Sample
+latest_of w = cond (eqb w.head.len 0) None (Some (newest_in w))
 
 -- of the samples since the wipe the last one, or none: the rules ask for no more
-abbrev pub latest : Bool → ℤ → Sample → Since
-latest empty origin previous = record { origin = origin; samples = cond empty [] (previous ∷ []) }
+abbrev pub latest : ℤ → Option Sample → Since
+latest origin None = record { origin = origin; samples = [] }
+latest origin (Some s) = record { origin = origin; samples = s ∷ [] }
 
 -- ---- the totals over points
 abbrev pub totals_of : List Point → Totals

@@ -1,8 +1,7 @@
 -- What is made of a second pulse and of the samples taken since the wipe (rules 9.1 to 9.13).
-use Rattle.std.specs.Prelude.{Bool, true, false, cond, not, ◌&&◌, ◌||◌, List, [], ◌∷◌, ◌++◌, ℕ, ◌^◌, leb, ltb, ℤ, pos, nat_abs, ◌-ℤ◌, length}
+use Rattle.std.specs.Prelude.{Bool, true, false, cond, not, ◌&&◌, ◌||◌, List, [], ◌∷◌, ◌++◌, ℕ, ◌^◌, leb, ltb, ℤ, pos, nat_abs, ◌-ℤ◌, length, Ok, Err, Result}
 use Rattle.std.specs.Int.Signed.{le_z, lt_z}
-use Rattle.numbers.specs.declared.ruling.Ruling.{Ruling}
-use Rattle.numbers.specs.declared.ruling.Ruling.TheVariants.{Clear, Barred}
+use Rattle.numbers.specs.Grounds.{Ruling}
 use Rattle.numbers.specs.Grounds.{first_of}
 use Rattle.numbers.specs.Orders.{of_tick, of_line}
 use Rattle.rules_watch.specs.declared.settings.WatchSettings.{WatchSettings}
@@ -10,13 +9,23 @@ use Rattle.rules_watch.specs.declared.window.Sample.{Sample}
 use Rattle.rules_watch.specs.declared.totals.Line as lines
 use Rattle.rules_watch.specs.declared.Pulse.{Pulse}
 use Rattle.rules_watch.specs.declared.Pulse.TheVariants.{Valid, Invalid, Back, Range, Jump}
-use Rattle.rules_watch.specs.declared.judging.Outcome.{Outcome}
-use Rattle.rules_watch.specs.declared.judging.Outcome.TheVariants.{Refuse, Wipe, Take}
-use Rattle.rules_watch.specs.declared.Drift.{Drift}
-use Rattle.rules_watch.specs.declared.Drift.TheVariants.{Line, Refused}
+use Rattle.rules_watch.specs.declared.judging.Judged.{Judged}
+use Rattle.rules_watch.specs.declared.judging.Judged.TheVariants.{Wipe, Take}
 use Rattle.rules_watch.specs.Settings.{size_of, least_of, wait_of}
 use Rattle.rules_watch.specs.Window.{last_n}
 use Rattle.rules_watch.specs.Totals.{points_of, line_through}
+use Rattle.numbers.specs.declared.refusal.Refusal.{Refusal}
+
+-- what is answered to a pulse, and for the line: or the refusal
+abbrev pub Answer : Type 0
+Answer = Result Pulse Refusal
+
+abbrev pub Drift : Type 0
+Drift = Result lines.Line Refusal
+
+-- what is made of a pulse: or the refusal
+abbrev pub Outcome : Type 0
+Outcome = Result Judged Refusal
 
 -- the samples taken since the wipe, oldest first, and clock - reference of the first of them
 pub record Since : Type 0 where
@@ -64,11 +73,11 @@ sample_after t previous reference y =
     }
 
 -- JUMP (rule 9.6), or taken
-abbrev pub settled : WatchSettings → ℤ → Sample → ℤ → ℤ → Outcome
+abbrev pub settled : WatchSettings → ℤ → Sample → ℤ → ℤ → Judged
 settled t origin previous reference y = cond (ltb t.jump (apart y previous.y)) (Wipe Jump) (Take origin (sample_after t previous reference y))
 
 -- BACK (rule 9.4), RANGE (rule 9.5), and then as above
-abbrev pub followed : WatchSettings → ℤ → Sample → ℤ → ℤ → Outcome
+abbrev pub followed : WatchSettings → ℤ → Sample → ℤ → ℤ → Judged
 followed t origin previous reference y =
     cond (le_z reference previous.reference) (Wipe Back)
     (cond (leb 1_000_000_000 (nat_abs y)) (Wipe Range)
@@ -82,15 +91,15 @@ on_last none f (s ∷ r ∷ l) = on_last none f (r ∷ l)
 
 -- what is made of stamps in range: the first is taken and valid, with y 0 (rule 9.3); any other is judged by the one before, y counted from the
 -- first (rule 9.2)
-abbrev pub inside : WatchSettings → Since → ℤ → ℤ → Outcome
+abbrev pub inside : WatchSettings → Since → ℤ → ℤ → Judged
 inside t h reference clock =
     on_last (Take (clock -ℤ reference) (record { reference = reference; y = pos 0; valid = true }))
     (λ previous. followed t h.origin previous reference (clock -ℤ reference -ℤ h.origin))
     h.samples
 
-abbrev pub unless_barred : Ruling → Outcome → Outcome
-unless_barred (Barred r) o = Refuse r
-unless_barred Clear o = o
+abbrev pub unless_barred : Ruling → Judged → Outcome
+unless_barred (Err r) j = Err r
+unless_barred (Ok _) j = Ok j
 
 -- what is made of a pulse (rule 3.63)
 abbrev pub outcome : WatchSettings → Since → ℤ → ℤ → Outcome
@@ -98,9 +107,9 @@ outcome t h reference clock = unless_barred (first_of (of_tick (outside_of refer
 
 -- the samples taken since the wipe, after one pulse more (rule 9.7)
 abbrev pub since_by : Since → Outcome → Since
-since_by h (Refuse r) = h
-since_by h (Wipe p) = fresh_since
-since_by h (Take origin s) = record { origin = origin; samples = h.samples ++ (s ∷ []) }
+since_by h (Err r) = h
+since_by h (Ok (Wipe p)) = fresh_since
+since_by h (Ok (Take origin s)) = record { origin = origin; samples = h.samples ++ (s ∷ []) }
 
 -- the two stamps of a pulse, and the samples after a list of them, first to last
 pub record Stamps : Type 0 where
@@ -120,8 +129,8 @@ abbrev pub due : WatchSettings → ℕ → List Sample → Bool
 due t taken window = leb (wait_of t) taken && leb (least_of t) (length (points_of window))
 
 abbrev pub line_unless_barred : Ruling → lines.Line → Drift
-line_unless_barred (Barred r) q = Refused r
-line_unless_barred Clear q = Line q
+line_unless_barred (Err r) q = Err r
+line_unless_barred (Ok _) q = Ok q
 
 -- the line through a window, unless it is refused (rule 3.64)
 abbrev pub line_if_due : WatchSettings → ℕ → List Sample → Drift

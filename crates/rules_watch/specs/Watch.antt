@@ -1,16 +1,11 @@
 -- The watch's memory: what it tells of the samples since the wipe, and what each call makes of it.
-use Rattle.std.specs.Prelude.{Bool, false, cond, List, [], ◌∷◌, ℕ, ◌%◌, ℤ, pos, set, replicate}
+use Rattle.std.specs.Prelude.{Bool, false, cond, List, [], ◌∷◌, ℕ, ◌%◌, ℤ, pos, set, replicate, Ok, Err}
 use Rattle.rules_watch.specs.declared.settings.WatchSettings.{WatchSettings}
 use Rattle.rules_watch.specs.declared.window.Sample.{Sample}
 use Rattle.rules_watch.specs.declared.window.Head.{Head}
 use Rattle.rules_watch.specs.declared.Watch.{Watch}
-use Rattle.rules_watch.specs.declared.Answer.{Answer}
-use Rattle.rules_watch.specs.declared.Answer.TheVariants.{Refused, Says}
-use Rattle.rules_watch.specs.declared.judging.Outcome.{Outcome}
-use Rattle.rules_watch.specs.declared.judging.Outcome.TheVariants.{Refuse, Wipe, Take}
-use Rattle.rules_watch.specs.declared.Took.{Took}
-use Rattle.rules_watch.specs.declared.Taken.{Taken}
-use Rattle.rules_watch.specs.declared.Drift.{Drift}
+use Rattle.rules_watch.specs.Rules.{Answer, Drift, Outcome}
+use Rattle.rules_watch.specs.declared.judging.Judged.TheVariants.{Wipe, Take}
 use Rattle.rules_watch.specs.Settings.{size_of}
 use Rattle.rules_watch.specs.Window.{mark_of, ring_of, held_in, fresh_head, head_after}
 use Rattle.rules_watch.specs.Rules.{Since, Stamps, pulse_of, wipes_of, outcome, line_if_due}
@@ -35,15 +30,20 @@ pushed size origin s w =
     (set w.ys (w.head.next % 128) s.y)
     (set w.marks (w.head.next % 128) (mark_of s.valid))
 
+-- what a pulse leaves: the watch, and the answer
+pub record Taken : Type 0 where
+  pub watch : Watch
+  pub answer : Answer
+
 -- a taken sample enters the window
 abbrev pub sample_taken : WatchSettings → Watch → ℤ → Sample → Taken
-sample_taken t w origin s = record { answer = Says (pulse_of s.valid); watch = pushed (size_of t) origin s w }
+sample_taken t w origin s = record { answer = Ok (pulse_of s.valid); watch = pushed (size_of t) origin s w }
 
 -- a pulse that is refused or wipes leaves the watch as it is: the unit empties it, with all else that a wipe empties
 abbrev pub taken_by : WatchSettings → Watch → Outcome → Taken
-taken_by t w (Refuse r) = record { answer = Refused r; watch = w }
-taken_by t w (Wipe p) = record { answer = Says p; watch = w }
-taken_by t w (Take origin s) = sample_taken t w origin s
+taken_by t w (Err r) = record { answer = Err r; watch = w }
+taken_by t w (Ok (Wipe p)) = record { answer = Ok p; watch = w }
+taken_by t w (Ok (Take origin s)) = sample_taken t w origin s
 
 -- what is held, read as samples since the wipe: the rules ask for the last of them alone
 abbrev pub since_of : Watch → Since
@@ -52,14 +52,10 @@ since_of w = record { origin = w.head.origin; samples = samples_in w }
 abbrev pub taken_of : WatchSettings → Watch → ℤ → ℤ → Taken
 taken_of t w reference clock = taken_by t w (outcome t (since_of w) reference clock)
 
--- what is handed back where the columns were lent: the head, and the answer
-abbrev pub took_of : Taken → Took
-took_of x = record { head = x.watch.head; answer = x.answer }
-
 -- the watch that the next call finds, once the unit has emptied it where the answer wipes
 abbrev pub wipes_by : Answer → Bool
-wipes_by (Refused r) = false
-wipes_by (Says p) = wipes_of p
+wipes_by (Err r) = false
+wipes_by (Ok p) = wipes_of p
 
 abbrev pub next_watch : Taken → Watch
 next_watch x = cond (wipes_by x.answer) fresh_watch x.watch
@@ -72,8 +68,7 @@ watch_after t w (p ∷ l) = watch_after t (next_watch (taken_of t w p.reference 
 abbrev pub watch_line : WatchSettings → Watch → Drift
 watch_line t w = line_if_due t w.head.taken (samples_in w)
 
--- a line asks for no reference: with head, ys and marks alone it is that of a watch with no references. Every watch with these three has this line:
--- proofs/Places.antt, line-in
+-- a line asks for no reference: every watch with this head, ys and marks has the line of one with no references (proofs/Places.antt, line-in)
 abbrev pub unreferenced : Head → List ℤ → List ℕ → Watch
 unreferenced head ys marks = watch_with head [] ys marks
 

@@ -5,30 +5,30 @@ ghost use Rattle.rules_watch.specs.Inner.{latest};
 
 use crate::Pulse;
 use crate::settings::WatchSettings;
-use crate::stamps::{apart, outside};
+use crate::stamps::outside;
 use crate::window::Sample;
 use numbers::refusal::Refusal;
 
 // A taken sample comes with the origin that then holds. The rules' definitions are over this type too.
 #[derive(Clone, Copy)]
-pub enum Outcome {
-    Refuse(Refusal),
+pub enum Judged {
     Wipe(Pulse),
     Take(i64, Sample),
 }
 
 // JUMP, or taken.
-fn settle(settings: WatchSettings, origin: i64, previous: Sample, reference: i64, y: i32) -> Outcome
+// What it is handed comes one by one, as `settled`, `followed` and `outcome` of the rules take it.
+fn settle(settings: WatchSettings, origin: i64, previous: Sample, reference: i64, y: i32) -> Judged
     requires { pos 0 ≤ℤ reference }
     ensures { result ≡ settled settings origin previous reference y }
 {
-    let moved = apart(y as i64, previous.y as i64);
-    if (settings.jump as u64) < moved {
-        return Outcome::Wipe(Pulse::Jump);
+    let moved = y.abs_diff(previous.y);
+    if settings.jump < moved {
+        return Judged::Wipe(Pulse::Jump);
     }
-    let late = apart(reference - 1_000_000_000, previous.reference);
+    let late = (reference - 1_000_000_000).abs_diff(previous.reference);
     let valid = settings.calm(moved, late);
-    Outcome::Take(
+    Judged::Take(
         origin,
         Sample {
             reference,
@@ -46,47 +46,43 @@ fn follow(
     previous: Sample,
     reference: i64,
     offset: i64,
-) -> Outcome
+) -> Judged
     requires { pos 0 ≤ℤ reference }
     ensures { result ≡ followed settings origin previous reference (offset -ℤ origin) }
 {
     if reference <= previous.reference {
-        return Outcome::Wipe(Pulse::Back);
+        return Judged::Wipe(Pulse::Back);
     }
-    if 1_000_000_000 <= apart(offset, origin) {
-        return Outcome::Wipe(Pulse::Range);
+    if 1_000_000_000 <= offset.abs_diff(origin) {
+        return Judged::Wipe(Pulse::Range);
     }
     let y = offset - origin;
     settle(settings, origin, previous, reference, y as i32)
 }
 
-// A second pulse after the sample `previous`, or the first one where the window is empty.
+// A second pulse after the sample taken last, or the first one where the window is empty.
 pub(crate) fn judge(
     settings: WatchSettings,
-    empty: bool,
     origin: i64,
-    previous: Sample,
+    last: Option<Sample>,
     reference: i64,
     clock: i64,
-) -> Outcome
-    ensures { result ≡ outcome settings (latest empty origin previous) reference clock }
+) -> Result<Judged, Refusal>
+    ensures { result ≡ outcome settings (latest origin last) reference clock }
 {
-    if outside(reference) {
-        return Outcome::Refuse(Refusal::Tick);
-    }
-    if outside(clock) {
-        return Outcome::Refuse(Refusal::Tick);
+    if outside(reference) || outside(clock) {
+        return Err(Refusal::Tick);
     }
     let offset = clock - reference;
-    if empty {
-        return Outcome::Take(
+    match last {
+        None => Ok(Judged::Take(
             offset,
             Sample {
                 reference,
                 y: 0,
                 valid: true,
             },
-        );
+        )),
+        Some(previous) => Ok(follow(settings, origin, previous, reference, offset)),
     }
-    follow(settings, origin, previous, reference, offset)
 }

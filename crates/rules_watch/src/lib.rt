@@ -1,7 +1,6 @@
 // The drift watch: a sample at each second pulse, the window of the last W taken, and the line through its valid samples.
 #![tactic(auto)]
 
-mod columns;
 pub mod judging;
 pub mod settings;
 mod stamps;
@@ -10,16 +9,18 @@ pub mod window;
 
 ghost use Rattle.std.specs.Prelude.{◌≡◌};
 ghost use Rattle.rules_watch.specs.Rules.{pulse_of, wipes_of, code_of};
-ghost use Rattle.rules_watch.specs.Watch.{watch_with, fresh_watch, took_of, sample_taken, taken_of, watch_line, line_in};
+ghost use Rattle.rules_watch.specs.Totals.{points_of};
+ghost use Rattle.rules_watch.specs.Watch.{samples_in, fresh_watch, sample_taken, taken_of, watch_line};
+ghost use Rattle.rules_watch.specs.Inner.{latest_of, totals_of, Over};
 
-use judging::{Outcome, judge};
+use judging::{Judged, judge};
 use numbers::refusal::Refusal;
+use numbers::units::Position;
 use settings::WatchSettings;
-use totals::Line;
-use window::{Head, Sample, mark};
+use totals::{Line, Totals};
+use window::{Head, Sample};
 
-// The window's columns are numbers, and the head is small: whoever holds a watch in his own memory lends the columns in place. A fresh watch is
-// also what the unit puts in its place at a wipe.
+// The window's columns are numbers, and the head is small: all of it is worked on where it lies. C lends it as it is.
 #[repr(C)]
 #[derive(Clone, Copy)]
 pub struct Watch {
@@ -29,18 +30,19 @@ pub struct Watch {
     pub marks: [u8; 128], // 0: an invalid sample; any other: a valid one
 }
 
-// What is said of a pulse. Back, Range and Jump wipe: the watch stays as it is, for the unit to empty with the rest.
+// What is said of a pulse, by its code at the door. Back, Range and Jump wipe: the watch stays as it is, for the unit to empty with the rest.
 #[derive(Clone, Copy)]
 pub enum Pulse {
-    Valid,
-    Invalid,
-    Back,
-    Range,
-    Jump,
+    Valid = 17,
+    Invalid = 18,
+    Back = 19,
+    Range = 20,
+    Jump = 21,
 }
 
 impl Pulse {
     // What is said of a sample that was taken.
+    // By name: true alone does not say valid.
     fn of(valid: bool) -> Pulse
         ensures { result ≡ pulse_of valid }
     {
@@ -50,210 +52,111 @@ impl Pulse {
     pub fn wipes(self) -> bool
         ensures { result ≡ wipes_of self }
     {
-        match self {
-            Pulse::Valid => false,
-            Pulse::Invalid => false,
-            Pulse::Back => true,
-            Pulse::Range => true,
-            Pulse::Jump => true,
-        }
+        matches!(self, Pulse::Back | Pulse::Range | Pulse::Jump)
     }
 
     // Its code at the door.
     pub fn code(self) -> u8
         ensures { result ≡ code_of self }
     {
-        match self {
-            Pulse::Valid => 17,
-            Pulse::Invalid => 18,
-            Pulse::Back => 19,
-            Pulse::Range => 20,
-            Pulse::Jump => 21,
-        }
+        self as u8
     }
 }
 
-#[derive(Clone, Copy)]
-pub enum Answer {
-    Refused(Refusal),
-    Says(Pulse),
-}
-
-// What a pulse leaves of a watch whose columns were lent, ..
-#[derive(Clone, Copy)]
-pub struct Took {
-    pub head: Head,
-    pub answer: Answer,
-}
-
-// .. and of a whole one. The watch comes first: with a small field before it a copy of the window was made in pieces.
-#[derive(Clone, Copy)]
-pub struct Taken {
-    pub watch: Watch,
-    pub answer: Answer,
-}
-
-#[derive(Clone, Copy)]
-pub enum Drift {
-    Refused(Refusal),
-    Line(Line),
-}
-
-// The sample enters the window.
-fn take_sample(
-    settings: WatchSettings,
-    head: Head,
-    references: &mut [i64; 128],
-    ys: &mut [i32; 128],
-    marks: &mut [u8; 128],
-    origin: i64,
-    s: Sample,
-) -> Took
-    ensures { (result ≡ took_of (sample_taken settings (watch_with head references.old ys.old marks.old) origin s))
-        × (references.new ≡ (sample_taken settings (watch_with head references.old ys.old marks.old) origin s).watch.references)
-        × (ys.new ≡ (sample_taken settings (watch_with head references.old ys.old marks.old) origin s).watch.ys)
-        × (marks.new ≡ (sample_taken settings (watch_with head references.old ys.old marks.old) origin s).watch.marks) }
-{
-    let at = head.place();
-    let reference = s.reference;
-    let y = s.y;
-    references[at] = reference;
-    ys[at] = y;
-    marks[at] = mark(s.valid);
-    let head = head.after(settings.size(), origin);
-    let pulse = Pulse::of(s.valid);
-    Took {
-        head,
-        answer: Answer::Says(pulse),
-    }
-}
-
-// A second pulse (rule 9.1): its stamp by the free oscillator, the reference, and by the steered clock. Of the sample taken last the rules ask for
-// reference and y alone.
-pub fn take(
-    settings: WatchSettings,
-    head: Head,
-    references: &mut [i64; 128],
-    ys: &mut [i32; 128],
-    marks: &mut [u8; 128],
-    reference: i64,
-    clock: i64,
-) -> Took
-    ensures { (result ≡ took_of (taken_of settings (watch_with head references.old ys.old marks.old) reference clock))
-        × (references.new ≡ (taken_of settings (watch_with head references.old ys.old marks.old) reference clock).watch.references)
-        × (ys.new ≡ (taken_of settings (watch_with head references.old ys.old marks.old) reference clock).watch.ys)
-        × (marks.new ≡ (taken_of settings (watch_with head references.old ys.old marks.old) reference clock).watch.marks) }
-{
-    let at = head.newest();
-    let previous = Sample {
-        reference: references[at],
-        y: ys[at],
-        valid: true,
-    };
-    match judge(
-        settings,
-        head.len == 0,
-        head.origin,
-        previous,
-        reference,
-        clock,
-    ) {
-        Outcome::Refuse(refusal) => Took {
-            head,
-            answer: Answer::Refused(refusal),
-        },
-        Outcome::Wipe(pulse) => Took {
-            head,
-            answer: Answer::Says(pulse),
-        },
-        Outcome::Take(origin, s) => {
-            take_sample(settings, head, references, ys, marks, origin, s)
-        }
-    }
-}
-
-// The line, once it is due. The columns stay as they are.
-pub fn line(
-    settings: WatchSettings,
-    head: Head,
-    ys: &mut [i32; 128],
-    marks: &mut [u8; 128],
-) -> Drift
-    ensures { (result ≡ line_in settings head ys.old marks.old)
-        × (ys.new ≡ ys.old)
-        × (marks.new ≡ marks.old) }
-{
-    if head.taken < (settings.wait() as u16) {
-        return Drift::Refused(Refusal::NotReady);
-    }
-    let totals = columns::totals(head, ys, marks);
-    if totals.n < (settings.least() as i64) {
-        return Drift::Refused(Refusal::NotReady);
-    }
-    Drift::Line(totals.line())
-}
-
-// All three columns cleared, and the head of a fresh watch.
-pub fn empty(references: &mut [i64; 128], ys: &mut [i32; 128], marks: &mut [u8; 128]) -> Head
-    ensures { (result ≡ fresh_watch.head)
-        × (references.new ≡ fresh_watch.references)
-        × (ys.new ≡ fresh_watch.ys)
-        × (marks.new ≡ fresh_watch.marks) }
-{
-    *references = [0; 128];
-    *ys = [0; 128];
-    *marks = [0; 128];
-    Head::fresh()
-}
-
-// A whole watch by value: the same on its own columns.
 impl Watch {
     pub fn fresh() -> Watch
         ensures { result ≡ fresh_watch }
     {
-        let mut references = [0i64; 128];
-        let mut ys = [0i32; 128];
-        let mut marks = [0u8; 128];
-        let head = empty(&mut references, &mut ys, &mut marks);
         Watch {
-            head,
-            references,
-            ys,
-            marks,
+            head: Head::default(),
+            references: [0; 128],
+            ys: [0; 128],
+            marks: [0; 128],
         }
     }
 
-    pub fn take(self, settings: WatchSettings, reference: i64, clock: i64) -> Taken
-        ensures { result ≡ taken_of settings self reference clock }
+    // All three columns cleared, and the head of a fresh watch.
+    pub fn empty(&mut self)
+        ensures { self.new ≡ fresh_watch }
     {
-        let mut references = self.references;
-        let mut ys = self.ys;
-        let mut marks = self.marks;
-        let took = take(
-            settings,
-            self.head,
-            &mut references,
-            &mut ys,
-            &mut marks,
-            reference,
-            clock,
-        );
-        let head = took.head;
-        let answer = took.answer;
-        let watch = Watch {
-            head,
-            references,
-            ys,
-            marks,
-        };
-        Taken { watch, answer }
+        self.head = Head::default();
+        self.references = [0; 128];
+        self.ys = [0; 128];
+        self.marks = [0; 128];
     }
 
-    pub fn line(self, settings: WatchSettings) -> Drift
-        ensures { result ≡ watch_line settings self }
+    // The sample taken last, where any is held.
+    fn latest(&self) -> Option<Sample>
+        ensures { result ≡ latest_of self.now }
     {
-        let mut ys = self.ys;
-        let mut marks = self.marks;
-        line(settings, self.head, &mut ys, &mut marks)
+        if self.head.len == 0 {
+            return None;
+        }
+        let at = self.head.newest();
+        Some(Sample {
+            reference: self.references[at],
+            y: self.ys[at],
+            valid: self.marks[at] != 0,
+        })
+    }
+
+    // The sample enters the window.
+    fn take_sample(&mut self, settings: WatchSettings, origin: i64, s: Sample) -> Pulse
+        ensures answer { result ≡ pulse_of s.valid }
+        ensures watch { self.new ≡ (sample_taken settings self.old origin s).watch }
+    {
+        let at = self.head.place();
+        self.references[at] = s.reference;
+        self.ys[at] = s.y;
+        self.marks[at] = u8::from(s.valid);
+        self.head = self.head.after(settings.size(), origin);
+        Pulse::of(s.valid)
+    }
+
+    // A second pulse (rule 9.1): its stamp by the free oscillator, the reference, and by the steered clock.
+    pub fn take(
+        &mut self,
+        settings: WatchSettings,
+        reference: i64,
+        clock: i64,
+    ) -> Result<Pulse, Refusal>
+        ensures answer { result ≡ (taken_of settings self.old reference clock).answer }
+        ensures watch { self.new ≡ (taken_of settings self.old reference clock).watch }
+    {
+        let last = self.latest();
+        match judge(settings, self.head.origin, last, reference, clock)? {
+            Judged::Wipe(pulse) => Ok(pulse),
+            Judged::Take(origin, s) => Ok(self.take_sample(settings, origin, s)),
+        }
+    }
+
+    // The totals over the valid samples, each at its place in the window: round the ring from the oldest one held.
+    fn totals(&self) -> Totals
+        ensures value { result ≡ totals_of (points_of (samples_in self.now)) }
+        ensures over { Over 128 result }
+    {
+        // By places: the samples lie round the ring, and k is the x of the line.
+        let len = u32::from(self.head.count());
+        let first = self.head.place() + (128 - len as usize);
+        let mut sum = Totals::default();
+        for k in 0..len {
+            let at = (first + k as usize) % 128;
+            sum = sum.add_marked(Position(k), self.ys[at], self.marks[at]);
+        }
+        sum
+    }
+
+    // The line, once it is due. It is read off the window where it lies.
+    pub fn line(&self, settings: WatchSettings) -> Result<Line, Refusal>
+        ensures { result ≡ watch_line settings self.now }
+    {
+        if self.head.taken < u16::from(settings.wait()) {
+            return Err(Refusal::NotReady);
+        }
+        let totals = self.totals();
+        if totals.n < i64::from(settings.least()) {
+            return Err(Refusal::NotReady);
+        }
+        Ok(totals.line())
     }
 }

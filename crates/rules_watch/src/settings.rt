@@ -3,7 +3,7 @@ ghost use Rattle.std.specs.Prelude.{◌≡◌, ◌&&◌, min, max, leb};
 ghost use Rattle.rules_watch.specs.Settings.{size_of, least_of, wait_of};
 
 #[repr(C)]
-#[derive(Clone, Copy)]
+#[derive(Clone, Copy, Default)]
 pub struct WatchSettings {
     pub window: u8, // W
     pub minimum: u8, // of valid samples in the window
@@ -18,38 +18,27 @@ impl WatchSettings {
     pub(crate) fn size(self) -> u8
         ensures { result ≡ size_of self }
     {
-        let window = self.window;
-        if window < 2 {
-            2
-        } else if 128 < window {
-            128
-        } else {
-            window
-        }
+        self.window.clamp(2, 128)
     }
 
     // The minimum. A line needs two points, whatever was set.
     pub(crate) fn least(self) -> u8
         ensures { result ≡ least_of self }
     {
-        if self.minimum < 2 { 2 } else { self.minimum }
+        self.minimum.max(2)
     }
 
     // The holdoff. The watch counts to 10, the widest that is accepted, and no further.
     pub(crate) fn wait(self) -> u8
         ensures { result ≡ wait_of self }
     {
-        if 10 < self.holdoff { 10 } else { self.holdoff }
+        self.holdoff.min(10)
     }
 
     // Valid: y moved by the spike at most, and the reference interval is off a second by the tolerance at most.
-    pub(crate) fn calm(self, moved: u64, late: u64) -> bool
+    pub(crate) fn calm(self, moved: u32, late: u64) -> bool
         ensures { result ≡ (leb late self.tolerance && leb moved self.spike) }
     {
-        if late <= (self.tolerance as u64) {
-            moved <= (self.spike as u64)
-        } else {
-            false
-        }
+        late <= u64::from(self.tolerance) && moved <= self.spike
     }
 }

@@ -1,12 +1,12 @@
 // The totals over points, and the line that they give.
 ghost use Rattle.std.specs.Prelude.{◌≡◌, ◌+◌, ◌≤◌, ◌<◌, pos, ◌<ℤ◌};
-ghost use Rattle.rules_watch.specs.Inner.{no_totals, with_point, Over, line_of, over_of};
+ghost use Rattle.rules_watch.specs.Inner.{with_point, with_marked, Over, line_of, over_of};
 
 use numbers::units::Position;
 
 // n, sum x, sum x², sum y and sum xy. Over 128 samples in a window of 128 places each stays far within an i64.
 #[repr(C)]
-#[derive(Clone, Copy)]
+#[derive(Clone, Copy, Default)]
 pub struct Totals {
     pub n: i64,
     pub x: i64,
@@ -17,7 +17,7 @@ pub struct Totals {
 
 // Level and slope as numerators over `over`, the number of samples, and the slope in ppm.
 #[repr(C)]
-#[derive(Clone, Copy)]
+#[derive(Clone, Copy, Default)]
 pub struct Line {
     pub level: i64,
     pub slope: i64,
@@ -27,25 +27,13 @@ pub struct Line {
 }
 
 impl Totals {
-    pub(crate) fn none() -> Totals
-        ensures { result ≡ no_totals }
-    {
-        Totals {
-            n: 0,
-            x: 0,
-            xx: 0,
-            y: 0,
-            xy: 0,
-        }
-    }
-
     // One point more.
-    pub(crate) fn add(self, x: Position, y: i32) -> Totals
+    fn add(self, x: Position, y: i32) -> Totals
         requires { (x.0 < 128) × Over 127 self }
         ensures { result ≡ with_point (pos x.0) y self }
     {
-        let x = x.0 as i64;
-        let y = y as i64;
+        let x = i64::from(x.0);
+        let y = i64::from(y);
         Totals {
             n: self.n + 1,
             x: self.x + x,
@@ -53,6 +41,15 @@ impl Totals {
             y: self.y + y,
             xy: self.xy + x * y,
         }
+    }
+
+    // One sample more: an invalid one keeps its place and adds nothing.
+    pub(crate) fn add_marked(self, x: Position, y: i32, mark: u8) -> Totals
+        requires { (x.0 < 128) × Over x.0 self }
+        ensures value { result ≡ with_marked x.0 y mark self }
+        ensures over { Over (x.0 + 1) result }
+    {
+        if mark == 0 { self } else { self.add(x, y) }
     }
 
     // The line. Both numbers of its slope in ppm are under 2^53 (rule 12.7), so that one division rounds once.

@@ -1,4 +1,5 @@
 -- Every call: the machine's answer is the book's, and its past tells the book with one line more.
+use Rattle.std.specs.Prelude.{Ok, Err}
 use mathlib.Core.Path.{◌≡◌, refl, ap, ◌∙◌, subst}
 use mathlib.Core.List.{List, ◌∷◌}
 use mathlib.Core.Option.{some}
@@ -9,8 +10,7 @@ use lib.Dec.{ltb}
 use lib.ListN.{length}
 use Rattle.numbers.specs.declared.stamp.Stamp.{Stamp}
 use Rattle.numbers.specs.declared.refusal.Refusal.TheVariants.{Now}
-use Rattle.numbers.specs.declared.ruling.Ruling.{Ruling}
-use Rattle.numbers.specs.declared.ruling.Ruling.TheVariants.{Clear, Barred}
+use Rattle.numbers.specs.Grounds.{Ruling}
 use Rattle.numbers.specs.Grounds.{Ground, first_of}
 use Rattle.numbers.specs.Orders.{Due, of_exchange}
 use Rattle.numbers.proofs.Grounds.{clear-cons}
@@ -49,7 +49,7 @@ use Rattle.story.proofs.Tells.{Tells, Agrees}
 use Rattle.story.proofs.Exchanging.{Plain, wiped-tells, same-output, exchange-told}
 
 -- where nothing bars a call of the exchange, its now is taken
-now-taken : (due : Due) → first_of (of_exchange due) ≡ Clear → due Now ≡ false
+now-taken : (due : Due) → first_of (of_exchange due) ≡ Ok tt → due Now ≡ false
 now-taken due q = (clear-cons _ _ (clear-cons _ _ q).1).0
 
 module _ (s : Settings) (b : Book) (p : Past) (h : Tells s b p) where
@@ -69,14 +69,14 @@ module _ (s : Settings) (b : Book) (p : Past) (h : Tells s b p) where
   stays-now now = ap (λ (k : Stays). with_now now k) h.stays
 
   -- the refusals look at what stays through a wipe
-  unless-barred : (call : Call) (bars : Stays → List Ground) (a : Answer) (e : Effect) → (first_of (bars K) ≡ Clear → Agrees s b p call p.table a e)
+  unless-barred : (call : Call) (bars : Stays → List Ground) (a : Answer) (e : Effect) → (first_of (bars K) ≡ Ok tt → Agrees s b p call p.table a e)
       → Agrees s b p call p.table (unless_barred (first_of (bars (stays_in b))) a) (unless (first_of (bars K)) e)
   unless-barred call bars a e f =
       subst (λ (k : Stays). Agrees s b p call p.table (unless_barred (first_of (bars k)) a) (unless (first_of (bars K)) e)) h.stays (go (first_of (bars K)) refl)
     where
       go : (v : Ruling) → first_of (bars K) ≡ v → Agrees s b p call p.table (unless_barred v a) (unless v e)
-      go Clear q = f q
-      go (Barred n) q = record { says = refl; tells = h }
+      go (Ok _) q = f q
+      go (Err n) q = record { says = refl; tells = h }
 
   -- ---- a message other than an Announce
   module _ (now : ℕ) (t2 : Stamp) (hd : Header) where

@@ -1,4 +1,5 @@
 -- A call that the exchange is told of: what each of its answers makes of the past and of the book.
+use Rattle.std.specs.Prelude.{Ok, Err}
 use mathlib.Core.Path.{◌≡◌, refl, sym, ap, ◌∙◌, subst}
 use mathlib.Core.List.{[], ◌∷◌}
 use mathlib.Core.Option.{Option, none, some}
@@ -12,8 +13,7 @@ use Rattle.rules_exchange.specs.declared.Exchange.{Exchange}
 use Rattle.rules_exchange.specs.declared.Accepted.{Accepted}
 use Rattle.rules_exchange.specs.declared.said.Said.{Said}
 use Rattle.rules_exchange.specs.declared.said.Said.TheVariants as says
-use Rattle.rules_exchange.specs.declared.Answer.{Answer as Told}
-use Rattle.rules_exchange.specs.declared.Answer.TheVariants as tells
+use Rattle.rules_exchange.specs.Events.{Answer as Told}
 use Rattle.rules_exchange.specs.Said.{wipes_of, faults_of, verdict_of}
 use Rattle.rules_exchange.specs.Table.{Event}
 use Rattle.rules_exchange.specs.Events.{told}
@@ -155,24 +155,24 @@ module _ (s : Settings) (b : Book) (p : Past) (h : Tells s b p) where
         let u = answers.Exchange said (record { 0 = pos 0 }) in
         wiped-tells call p.table u k refl (rw w) (rw (f.nows u, y, f.requests u) f.stays) (rw f.stays (f.seats u))
 
-    meet : (a : Told) → ((m : Accepted) → a ≡ tells.Says (says.Measured m) → held_offset m.offset.0 ≡ m.offset.0) → (x : Exchange)
+    meet : (a : Told) → ((m : Accepted) → a ≡ Ok (says.Measured m) → held_offset m.offset.0 ≡ m.offset.0) → (x : Exchange)
         → ExchangeTells (log_with e a (exchange_log s b)) (exchange_after (record { answer = a; exchange = x })) → Agrees s b p call p.table (unit_answer s b a) (by_answer s k p.progress a x)
     unfolding by_said
-    meet (tells.Refused n) g x xt = record { says = refl; tells = h }
-    meet (tells.Says says.Held) g x xt = went says.Held x refl refl refl xt
-    meet (tells.Says says.Paired) g x xt = went says.Paired x refl refl refl xt
-    meet (tells.Says (says.Asked n)) g x xt = went (says.Asked n) x refl refl refl xt
-    meet (tells.Says says.Stamped) g x xt = went says.Stamped x refl refl refl xt
-    meet (tells.Says says.Back) g x xt = ended says.Back refl refl
-    meet (tells.Says says.Neg) g x xt = went says.Neg x refl refl refl xt
-    meet (tells.Says says.Long) g x xt = went says.Long x refl refl refl xt
-    meet (tells.Says says.Huge) g x xt = went says.Huge x refl refl refl xt
-    meet (tells.Says says.HugeFaulty) g x xt = faulted x xt
-    meet (tells.Says says.Path) g x xt = went says.Path x refl refl refl xt
-    meet (tells.Says says.PathWiped) g x xt = ended says.PathWiped refl refl
-    meet (tells.Says (says.Step o)) g x xt = ended (says.Step o) refl refl
-    meet (tells.Says (says.Measured m)) g x xt =
-        subst (λ (n : ℕ). Agrees s b p call p.table (unit_answer s b (tells.Says (says.Measured m))) (goes (answers.Exchange (says.Measured m) (output_after s p.progress m)) k (progress_after s p.progress x m n)))
+    meet (Err n) g x xt = record { says = refl; tells = h }
+    meet (Ok says.Held) g x xt = went says.Held x refl refl refl xt
+    meet (Ok says.Paired) g x xt = went says.Paired x refl refl refl xt
+    meet (Ok (says.Asked n)) g x xt = went (says.Asked n) x refl refl refl xt
+    meet (Ok says.Stamped) g x xt = went says.Stamped x refl refl refl xt
+    meet (Ok says.Back) g x xt = ended says.Back refl refl
+    meet (Ok says.Neg) g x xt = went says.Neg x refl refl refl xt
+    meet (Ok says.Long) g x xt = went says.Long x refl refl refl xt
+    meet (Ok says.Huge) g x xt = went says.Huge x refl refl refl xt
+    meet (Ok says.HugeFaulty) g x xt = faulted x xt
+    meet (Ok says.Path) g x xt = went says.Path x refl refl refl xt
+    meet (Ok says.PathWiped) g x xt = ended says.PathWiped refl refl
+    meet (Ok (says.Step o)) g x xt = ended (says.Step o) refl refl
+    meet (Ok (says.Measured m)) g x xt =
+        subst (λ (n : ℕ). Agrees s b p call p.table (unit_answer s b (Ok (says.Measured m))) (goes (answers.Exchange (says.Measured m) (output_after s p.progress m)) k (progress_after s p.progress x m n)))
         (sym (ap (λ (j : Stays). j.now) f.stays)) (steered m x (g m refl) xt)
 
     pub exchange-told : Agrees s b p call p.table (unit_answer s b (exchange_answer (exchange_log s b) e)) (exchanges s k p.progress (told p.progress.exchange e))

@@ -1,4 +1,5 @@
 -- The calls that the exchange is not told of: an Announce, the bare time call, the second pulse, the line and what is shown.
+use Rattle.std.specs.Prelude.{Ok, Err}
 use mathlib.Core.Path.{◌≡◌, refl, sym, ap, ◌∙◌, subst}
 use mathlib.Core.List.{List, [], ◌∷◌, ◌++◌}
 use mathlib.Core.Option.{Option, none, some}
@@ -21,8 +22,9 @@ use Rattle.rules_masters.specs.declared.table.Table.{Table}
 use Rattle.rules_masters.specs.declared.chosen.Chosen.{Chosen}
 use Rattle.rules_masters.specs.declared.chosen.Decision.TheVariants.{Same, Changed}
 use Rattle.rules_masters.specs.declared.record.Announce.{Announce}
-use Rattle.rules_masters.specs.declared.admission.Answer.{Answer as Admission}
-use Rattle.rules_masters.specs.declared.admission.Answer.TheVariants as admission
+use Rattle.rules_masters.specs.Admitting.{Answer as Admission}
+use Rattle.rules_masters.specs.declared.admission.Entry.TheVariants as admission
+use Rattle.rules_watch.specs.Rules.{Outcome, Drift}
 use Rattle.rules_masters.specs.Records.{interval_of}
 use Rattle.rules_masters.specs.Holding.{chosen_at, same_master_of, decision_of}
 use Rattle.rules_servo.specs.Shows.{is_holdover, is_tracking}
@@ -30,10 +32,8 @@ use Rattle.rules_servo.specs.declared.shown.Shown.TheVariants.{Holdover, Trackin
 use Rattle.rules_watch.specs.declared.settings.WatchSettings.{WatchSettings}
 use Rattle.rules_watch.specs.declared.window.Sample.{Sample}
 use Rattle.rules_watch.specs.declared.Pulse.TheVariants as pulse
-use Rattle.rules_watch.specs.declared.judging.Outcome.{Outcome}
-use Rattle.rules_watch.specs.declared.judging.Outcome.TheVariants.{Refuse, Wipe, Take}
-use Rattle.rules_watch.specs.declared.Drift.{Drift}
-use Rattle.rules_watch.specs.declared.Drift.TheVariants as drift
+use Rattle.rules_watch.specs.declared.judging.Judged.{Judged}
+use Rattle.rules_watch.specs.declared.judging.Judged.TheVariants.{Wipe, Take}
 use Rattle.rules_watch.specs.Rules.{Since, Stamps as Given, pulse_of, outcome, on_last, sample_after, outside_of, apart, line_since, since_by}
 use Rattle.rules_watch.proofs.Outcomes.{outcome-is}
 use Rattle.rules_watch.proofs.Story.{Proper, proper}
@@ -63,18 +63,18 @@ use Rattle.story.proofs.Calling.{seats-now}
 abbrev since_of_pulses : WatchSettings → List Given → Since
 since_of_pulses t l = record { origin = ahead_first l; samples = samples_of t l }
 
-on-last : (x : Outcome) (f : Sample → Outcome) (l : List Sample) (z : Sample) → on_last x f (l ++ (z ∷ [])) ≡ f z
+on-last : (x : Judged) (f : Sample → Judged) (l : List Sample) (z : Sample) → on_last x f (l ++ (z ∷ [])) ≡ f z
 unfolding on_last
 on-last x f [] z = refl
 on-last x f (a ∷ []) z = refl
 on-last x f (a ∷ b ∷ l) z = on-last x f (b ∷ l) z
 
-pulse-taken : (t : WatchSettings) (l : List Given) (r c o : ℤ) (x : Sample) → outcome t (since_of_pulses t l) r c ≡ Take o x
-    → since_by (since_of_pulses t l) (Take o x) ≡ since_of_pulses t (record { reference = r; clock = c } ∷ l)
+pulse-taken : (t : WatchSettings) (l : List Given) (r c o : ℤ) (x : Sample) → outcome t (since_of_pulses t l) r c ≡ Ok (Take o x)
+    → since_by (since_of_pulses t l) (Ok (Take o x)) ≡ since_of_pulses t (record { reference = r; clock = c } ∷ l)
 unfolding ahead_first samples_of on_last
 pulse-taken t [] r c o x e = go (outside_of r || outside_of c) (sym (outcome-is t (since_of_pulses t []) r c) ∙ e)
   where
-    go : (i : Bool) → cond i (Refuse Tick) (Take (c -ℤ r) (record { reference = r; y = pos 0; valid = true })) ≡ Take o x
+    go : (i : Bool) → cond i (Err Tick) (Ok (Take (c -ℤ r) (record { reference = r; y = pos 0; valid = true }))) ≡ Ok (Take o x)
         → record { origin = o; samples = x ∷ [] } ≡ since_of_pulses t (record { reference = r; clock = c } ∷ [])
     go true f = absurd (let z : ◌≡◌ {A = ℕ} 0 1 = cc in omega arith)
     go false f = let u : o ≡ c -ℤ r = cc in let v : x ≡ record { reference = r; y = pos 0; valid = true } = cc in rw (u, v)
@@ -89,7 +89,7 @@ pulse-taken t (q ∷ l) r c o x e =
     P = record { reference = r; clock = c }
 
     go : (i j k n : Bool)
-        → cond i (Refuse Tick) (cond j (Wipe pulse.Back) (cond k (Wipe pulse.Range) (cond n (Wipe pulse.Jump) (Take (ahead_first (q ∷ l)) (sample_after t (sample_of t q l) r Y))))) ≡ Take o x
+        → cond i (Err Tick) (Ok (cond j (Wipe pulse.Back) (cond k (Wipe pulse.Range) (cond n (Wipe pulse.Jump) (Take (ahead_first (q ∷ l)) (sample_after t (sample_of t q l) r Y)))))) ≡ Ok (Take o x)
         → record { origin = o; samples = samples_of t (q ∷ l) ++ (x ∷ []) } ≡ since_of_pulses t (P ∷ q ∷ l)
     go true j k n f = absurd (let z : ◌≡◌ {A = ℕ} 0 1 = cc in omega arith)
     go false true k n f = absurd (let z : ◌≡◌ {A = ℕ} 0 1 = cc in omega arith)
@@ -183,14 +183,14 @@ module _ (s : Settings) (b : Book) (p : Past) (h : Tells s b p) where
 
         go : (a : Admission) → Said ≡ a → SeatTells (interval_of s.announce) (log_by (seats s b) now M a) (record { table = T; last = last_after K.now now a })
             → Agrees s b p Announced T (admission_answer s b now M a) (admits s K p.progress T now a)
-        go (admission.Refused n) e st =
+        go (Err n) e st =
             record {
               says = refl;
               tells =
                   record { stays = h.stays; seats = st; exchange = h.exchange; servo = h.servo; measured = h.measured; since = h.since; count = h.count };
             }
-        go (admission.Renewed i) e st = told (came i now M ∷ seats s b) (omega arith) st (ap (λ (a : Admission). log_by (seats s b) now M a) e)
-        go (admission.Entered i) e st = told (came i now M ∷ seats s b) (omega arith) st (ap (λ (a : Admission). log_by (seats s b) now M a) e)
+        go (Ok (admission.Renewed i)) e st = told (came i now M ∷ seats s b) (omega arith) st (ap (λ (a : Admission). log_by (seats s b) now M a) e)
+        go (Ok (admission.Entered i)) e st = told (came i now M ∷ seats s b) (omega arith) st (ap (λ (a : Admission). log_by (seats s b) now M a) e)
 
   -- ---- the time call
   pub time-told : (now : ℕ) → Agrees s b p (calls.Time now) p.table (answer s b (calls.Time now)) (time_passes s K p.progress p.table now)
@@ -209,13 +209,13 @@ module _ (s : Settings) (b : Book) (p : Past) (h : Tells s b p) where
   -- ---- the second pulse
   pulse-told : (r c : ℤ) (o : Outcome) → outcome s.watch p.since r c ≡ o → Proper o → Agrees s b p (calls.Tick r c) p.table (pulse_answer s b o) (ticks K o)
   unfolding all since ahead_first samples_of
-  pulse-told r c (Refuse n) e q = record { says = refl; tells = h }
-  pulse-told r c (Wipe a) e q = wiped-tells s b p h (calls.Tick r c) p.table (answers.Watch a) K refl (rw q) h.stays h.seats
-  pulse-told r c (Take origin x) e q = record { says = refl; tells = go x.valid }
+  pulse-told r c (Err n) e q = record { says = refl; tells = h }
+  pulse-told r c (Ok (Wipe a)) e q = wiped-tells s b p h (calls.Tick r c) p.table (answers.Watch a) K refl (rw q) h.stays h.seats
+  pulse-told r c (Ok (Take origin x)) e q = record { says = refl; tells = go x.valid }
     where
-      taken : since_by p.since (Take origin x) ≡ since_of_pulses s.watch (record { reference = r; clock = c } ∷ all a_pulse (since_wipe b))
+      taken : since_by p.since (Ok (Take origin x)) ≡ since_of_pulses s.watch (record { reference = r; clock = c } ∷ all a_pulse (since_wipe b))
       taken =
-          ap (λ (z : Since). since_by z (Take origin x)) h.since
+          ap (λ (z : Since). since_by z (Ok (Take origin x))) h.since
           ∙ pulse-taken s.watch (all a_pulse (since_wipe b)) r c origin x (ap (λ (z : Since). outcome s.watch z r c) (sym h.since) ∙ e)
 
       go : (v : Bool) → Tells s (book_with (calls.Tick r c) (answers.Watch (pulse_of v)) b) (past_by s p p.table (takes origin x))
@@ -231,8 +231,8 @@ module _ (s : Settings) (b : Book) (p : Past) (h : Tells s b p) where
   -- ---- the line
   line-by : (d : Drift) (n : ℕ) → Agrees s b p calls.Line p.table (line_by d n) (keeps (line_by d n))
   unfolding all since
-  line-by (drift.Refused n) m = record { says = refl; tells = h }
-  line-by (drift.Line l) m =
+  line-by (Err n) m = record { says = refl; tells = h }
+  line-by (Ok l) m =
       record {
         says = refl;
         tells = record { stays = h.stays; seats = h.seats; exchange = h.exchange; servo = h.servo; measured = h.measured; since = h.since; count = h.count };

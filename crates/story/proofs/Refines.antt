@@ -1,4 +1,5 @@
 -- Whatever calls a fresh unit got, its next answer is the one that the book of those calls gives.
+use Rattle.std.specs.Prelude.{Ok, Err}
 use mathlib.Core.Path.{◌≡◌, refl, ap, ◌∙◌, subst}
 use mathlib.Core.List.{List, [], ◌∷◌, reverse}
 use Prim.Native.Nat.{ℕ}
@@ -10,8 +11,7 @@ use Rattle.rules_settings.specs.declared.Settings.{Settings}
 use Rattle.unit_core.specs.declared.calls.Call.{Call}
 use Rattle.unit_core.specs.declared.calls.Call.TheVariants as calls
 use Rattle.unit.specs.declared.Unit.{Unit}
-use Rattle.unit_handing.specs.declared.Asked.{Asked}
-use Rattle.unit_handing.specs.declared.Asked.TheVariants.{Barred, Asks}
+use Rattle.unit_handing.specs.Handing.{Asked}
 use Rattle.unit.specs.Receiving.{receives, table_by}
 use Rattle.unit.specs.Machine.{Past, effect_after, past, answer_after}
 use Rattle.unit.specs.Calls.{table_after, fresh_unit}
@@ -50,8 +50,8 @@ module _ (s : Settings) (b : Book) (p : Past) (h : Tells s b p) where
 -- any list of calls, the newest first
 asked-tells : (s : Settings) (b : Book) (before : List Call) → Tells s b (past s before) → (a : Asked) → Tells s (book_by s b a) (past s (with_asked a before))
 unfolding past
-asked-tells s b before t (Barred r) = t
-asked-tells s b before t (Asks call) = (step s b (past s before) t call).tells
+asked-tells s b before t (Err r) = t
+asked-tells s b before t (Ok call) = (step s b (past s before) t call).tells
 
 pub tells : (s : Settings) (before : List (Handed ℕ)) → Tells s (book s before) (past s (calls_in before))
 unfolding book past calls_in
@@ -64,8 +64,8 @@ past-tells s list = subst (λ (l : List Call). Tells s (book s (reverse list)) (
 
 asked-refines : (s : Settings) (list : List (Handed ℕ)) (a : Asked) → (stepped_by (played (fresh_unit s) (calls_in list)) a).answer ≡ answer_to s (book s (reverse list)) a
 unfolding answer_after
-asked-refines s list (Barred r) = refl
-asked-refines s list (Asks call) = all-answers s (calls_in list) call ∙ (step s (book s (reverse list)) (past s (reverse (calls_in list))) (past-tells s list) call).says
+asked-refines s list (Err r) = refl
+asked-refines s list (Ok call) = all-answers s (calls_in list) call ∙ (step s (book s (reverse list)) (past s (reverse (calls_in list))) (past-tells s list) call).says
 
 pub unit-refines : (s : Settings) (list : List (Handed ℕ)) (call : Handed ℕ) → (served_of (served_all (fresh_unit s) list) call).answer ≡ answer_by_history s (reverse list) call
 unfolding served_of answer_by_history

@@ -1,8 +1,8 @@
 -- What the past of the unit, told in records, says of the book.
+use mathlib.Core.Bool.{cond}
 use mathlib.Core.Path.{◌≡◌, refl}
 use mathlib.Core.List.{[]}
 use mathlib.Core.Option.{Option, none, some}
-use mathlib.Core.Bool.{cond}
 use Prim.Native.Nat.{ℕ}
 use Rattle.rules_masters.specs.declared.table.Table.{Table}
 use Rattle.rules_masters.specs.Records.{interval_of}
@@ -20,6 +20,7 @@ use Rattle.story_lists.specs.Reading.{all, since}
 use Rattle.story.specs.Book.{Book, stays_in, seats, exchange_log, offsets, last_measured, samples, ahead_first, samples_of, wipe_count}
 use Rattle.story.specs.Tale.{book_with}
 
+-- what the unit holds of a now, as the book has it
 abbrev pub measured_read : Progress → Option ℕ
 measured_read r = cond r.measured (some r.at) none
 

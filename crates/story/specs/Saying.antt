@@ -1,9 +1,11 @@
 -- The answer to a call, from the book alone.
-use Rattle.std.specs.Prelude.{List, [], ◌∷◌, Bool, false, cond, ℕ, ◌+◌, ◌%◌, ◌^◌, ltb, ℤ}
+use Rattle.std.specs.Prelude.{List, [], ◌∷◌, Bool, false, cond, ℕ, ◌+◌, ◌%◌, ◌^◌, ltb, ℤ, Ok, Err}
 use Rattle.std.proofs.Math.Option.{Option, none, some}
 use Rattle.numbers.specs.declared.refusal.Refusal.TheVariants.{Kind}
-use Rattle.numbers.specs.declared.ruling.Ruling.{Ruling}
-use Rattle.numbers.specs.declared.ruling.Ruling.TheVariants.{Clear, Barred}
+use Rattle.numbers.specs.Grounds.{Ruling}
+use Rattle.rules_masters.specs.Admitting.{Answer as Admission}
+use Rattle.rules_masters.specs.declared.admission.Entry.TheVariants as admission
+use Rattle.rules_exchange.specs.Events.{Answer as Told}
 use Rattle.numbers.specs.Grounds.{first_of}
 use Rattle.numbers.specs.Orders.{Due, of_exchange, of_time}
 use Rattle.numbers.specs.declared.stamp.Stamp.{Stamp}
@@ -12,11 +14,7 @@ use Rattle.wire_layout.specs.declared.message.Header.{Header}
 use Rattle.wire_layout.specs.declared.message.Body.{Body}
 use Rattle.wire_layout.specs.declared.message.Body.TheVariants as bodies
 use Rattle.rules_masters.specs.declared.record.Announce.{Announce}
-use Rattle.rules_masters.specs.declared.admission.Answer.{Answer as Admission}
-use Rattle.rules_masters.specs.declared.admission.Answer.TheVariants as admission
 use Rattle.rules_masters.specs.Holding.{decision_of}
-use Rattle.rules_exchange.specs.declared.Answer.{Answer as Told}
-use Rattle.rules_exchange.specs.declared.Answer.TheVariants as tells
 use Rattle.rules_exchange.specs.declared.said.Said.{Said}
 use Rattle.rules_exchange.specs.Said.{wipes_of, verdict_of}
 use Rattle.rules_exchange.specs.Table.{Event, sync, requested, sent, follow_up, delay_resp}
@@ -25,9 +23,8 @@ use Rattle.rules_servo.specs.declared.shown.Shown.{Shown}
 use Rattle.rules_servo.specs.declared.shown.Shown.TheVariants.{Holdover, Tracking, Adjusting}
 use Rattle.rules_servo.specs.Shows.{is_tracking}
 use Rattle.rules_servo.specs.Steps.{limit_of}
-use Rattle.rules_watch.specs.declared.judging.Outcome.{Outcome}
-use Rattle.rules_watch.specs.declared.judging.Outcome.TheVariants.{Refuse, Wipe, Take}
-use Rattle.rules_watch.specs.Rules.{pulse_of, outcome, line_since}
+use Rattle.rules_watch.specs.declared.judging.Judged.TheVariants.{Wipe, Take}
+use Rattle.rules_watch.specs.Rules.{Outcome, pulse_of, outcome, line_since}
 use Rattle.rules_settings.specs.declared.Settings.{Settings}
 use Rattle.unit_core.specs.declared.calls.Call.{Call}
 use Rattle.unit_core.specs.declared.calls.Call.TheVariants as calls
@@ -52,8 +49,8 @@ output_of s l = record { 0 = output s.kp s.ki s.sync (limit_of s.limit.0) l }
 
 -- ---- the exchange
 abbrev pub unless_barred : Ruling → Answer → Answer
-unless_barred Clear a = a
-unless_barred (Barred n) a = answers.Refused n
+unless_barred (Ok _) a = a
+unless_barred (Err n) a = answers.Refused n
 
 module _ (s : Settings) (b : Book) where
   -- what the exchange said, with the output that is set after it: a measurement steers the clock, and a wipe sets 0
@@ -61,8 +58,8 @@ module _ (s : Settings) (b : Book) where
   output_after said = cond (wipes_of said) (output_of s []) (output_of s (with_it (then (verdict_of said) offset_by) (offsets b)))
 
   abbrev pub unit_answer : Told → Answer
-  unit_answer (tells.Refused n) = answers.Refused n
-  unit_answer (tells.Says said) = answers.Exchange said (output_after said)
+  unit_answer (Err n) = answers.Refused n
+  unit_answer (Ok said) = answers.Exchange said (output_after said)
 
   abbrev pub event_answer : Event → Answer
   event_answer e = unit_answer (exchange_answer (exchange_log s b) e)
@@ -79,9 +76,9 @@ module _ (s : Settings) (b : Book) where
   choice_answer now l = answers.Choice (decision_of (chosen b) (chosen_in s.announce l now))
 
   abbrev pub admission_answer : ℕ → Announce → Admission → Answer
-  admission_answer now m (admission.Refused n) = answers.Refused n
-  admission_answer now m (admission.Renewed p) = choice_answer now (came p now m ∷ seats s b)
-  admission_answer now m (admission.Entered p) = choice_answer now (came p now m ∷ seats s b)
+  admission_answer now m (Err n) = answers.Refused n
+  admission_answer now m (Ok (admission.Renewed p)) = choice_answer now (came p now m ∷ seats s b)
+  admission_answer now m (Ok (admission.Entered p)) = choice_answer now (came p now m ∷ seats s b)
 
   -- ---- a message: a Delay_Req is KIND before all else
   abbrev pub message_answer : ℕ → Stamp → Header → Body → Answer
@@ -95,9 +92,9 @@ module _ (s : Settings) (b : Book) where
 
   -- ---- the watch
   abbrev pub pulse_answer : Outcome → Answer
-  pulse_answer (Refuse n) = answers.Refused n
-  pulse_answer (Wipe p) = answers.Watch p
-  pulse_answer (Take origin x) = answers.Watch (pulse_of x.valid)
+  pulse_answer (Err n) = answers.Refused n
+  pulse_answer (Ok (Wipe p)) = answers.Watch p
+  pulse_answer (Ok (Take origin x)) = answers.Watch (pulse_of x.valid)
 
   -- ---- what is shown
   abbrev pub overdue : Option ℕ → ℕ → Bool

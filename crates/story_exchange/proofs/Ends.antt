@@ -1,4 +1,5 @@
 -- A finished measurement: the verdicts, the third in a row, the last five delays and the delay last used.
+use Rattle.std.specs.Prelude.{Ok, Err}
 use mathlib.Core.Path.{◌≡◌, refl, ap, ◌∙◌}
 use mathlib.Core.List.{List, [], ◌∷◌}
 use mathlib.Core.Option.{Option, none, some}
@@ -15,7 +16,6 @@ use Rattle.numbers.specs.declared.refusal.Refusal.TheVariants.{Unmatched}
 use Rattle.wire_layout.specs.declared.message.Port.{Port}
 use Rattle.rules_delays.specs.declared.Delays.{Delays}
 use Rattle.rules_exchange.specs.declared.Exchange.{Exchange}
-use Rattle.rules_exchange.specs.declared.Answer.TheVariants.{Refused, Says}
 use Rattle.rules_exchange.specs.declared.said.Said.{Said}
 use Rattle.rules_exchange.specs.declared.said.Said.TheVariants.{Neg, Long, Huge, HugeFaulty, Path, PathWiped, Step}
 use Rattle.rules_measure.specs.declared.Sum.{Sum}
@@ -84,31 +84,31 @@ module _ (l : Log) (x : Exchange) (h : Tells l x) (n : ℕ) (c : ℤ) (t4 : Stam
         path = ps;
       }
 
-  huge-again : Agrees l Resp (Says (cond (last_two is_huge (verdicts l)) HugeFaulty Huge)) (huge_again (spent x))
+  huge-again : Agrees l Resp (Ok (cond (last_two is_huge (verdicts l)) HugeFaulty Huge)) (huge_again (spent x))
   unfolding huge_again answers_in all row
   huge-again = go (last_two is_huge (verdicts l)) (ap (λ (k : ℕ). ltb k 2) h.huge ∙ two-in-row is_huge (verdicts l))
     where
       go : (b : Bool) → ltb x.huge 2 ≡ not b
-          → Agrees l Resp (Says (cond b HugeFaulty Huge)) (cond (ltb x.huge 2) (said_with Huge (with_rows (spent x) (x.huge + 1) 0)) (said_with HugeFaulty (with_rows (spent x) 3 0)))
+          → Agrees l Resp (Ok (cond b HugeFaulty Huge)) (cond (ltb x.huge 2) (said_with Huge (with_rows (spent x) (x.huge + 1) 0)) (said_with HugeFaulty (with_rows (spent x) 3 0)))
       go true e = rw e (record { says = refl; tells = ended HugeFaulty 3 0 refl refl (omega (arith, ltb-false x.huge 2 e, h.huge)) refl })
       go false e = rw e (record { says = refl; tells = ended Huge (x.huge + 1) 0 refl refl (omega (arith, ltb-true x.huge 2 e, h.huge)) refl })
 
-  path-again : Agrees l Resp (Says (cond (last_two is_path (verdicts l)) PathWiped Path)) (path_again (spent x))
+  path-again : Agrees l Resp (Ok (cond (last_two is_path (verdicts l)) PathWiped Path)) (path_again (spent x))
   unfolding path_again answers_in all row
   path-again = go (last_two is_path (verdicts l)) (ap (λ (k : ℕ). ltb k 2) h.path ∙ two-in-row is_path (verdicts l))
     where
       go : (b : Bool) → ltb x.path 2 ≡ not b
-          → Agrees l Resp (Says (cond b PathWiped Path)) (cond (ltb x.path 2) (said_with Path (with_rows (spent x) 0 (x.path + 1))) (said_with PathWiped (with_rows (spent x) 0 3)))
+          → Agrees l Resp (Ok (cond b PathWiped Path)) (cond (ltb x.path 2) (said_with Path (with_rows (spent x) 0 (x.path + 1))) (said_with PathWiped (with_rows (spent x) 0 3)))
       go true e = rw e (record { says = refl; tells = fresh-tells })
       go false e = rw e (record { says = refl; tells = ended Path 0 (x.path + 1) refl refl refl (omega (arith, ltb-true x.path 2 e, h.path)) })
 
   accept : (forward : ℤ) (d : ℕ) (u : ℕ) → used_of x.delays d ≡ u → used l d ≡ u
-      → Agrees l Resp (Says (cond (is_step (forward -ℤ pos u)) (Step (ns (forward -ℤ pos u))) (measured_with d u (forward -ℤ pos u)))) (accepting (spent x) forward d)
+      → Agrees l Resp (Ok (cond (is_step (forward -ℤ pos u)) (Step (ns (forward -ℤ pos u))) (measured_with d u (forward -ℤ pos u)))) (accepting (spent x) forward d)
   unfolding accepting events_in answers_in all since row
   accept forward d u e f = rw e (go (is_step (forward -ℤ pos u)))
     where
       go : (b : Bool)
-          → Agrees l Resp (Says (cond b (Step (ns (forward -ℤ pos u))) (measured_with d u (forward -ℤ pos u))))
+          → Agrees l Resp (Ok (cond b (Step (ns (forward -ℤ pos u))) (measured_with d u (forward -ℤ pos u))))
           (cond b (said_with (Step (ns (forward -ℤ pos u))) (spent x)) (said_with (measured_with d u (forward -ℤ pos u)) (with_delay (spent x) d)))
       go true = record { says = refl; tells = fresh-tells }
       go false =
@@ -126,7 +126,7 @@ module _ (l : Log) (x : Exchange) (h : Tells l x) (n : ℕ) (c : ℤ) (t4 : Stam
                 };
           }
 
-  judge : (forward : ℤ) (s : Sum) → Agrees l Resp (Says (judged l forward s)) (by_sum (spent x) forward s)
+  judge : (forward : ℤ) (s : Sum) → Agrees l Resp (Ok (judged l forward s)) (by_sum (spent x) forward s)
   unfolding judging answers_in all row
   judge forward SumNeg = record { says = refl; tells = ended Neg 0 0 refl refl refl refl }
   judge forward SumLong = record { says = refl; tells = ended Long 0 0 refl refl refl refl }
@@ -134,7 +134,7 @@ module _ (l : Log) (x : Exchange) (h : Tells l x) (n : ℕ) (c : ℤ) (t4 : Stam
     where
       go : (a b : Bool)
           → Agrees l Resp
-          (Says (cond a (cond (last_two is_huge (verdicts l)) HugeFaulty Huge)
+          (Ok (cond a (cond (last_two is_huge (verdicts l)) HugeFaulty Huge)
           (cond b (cond (last_two is_path (verdicts l)) PathWiped Path)
           (cond (is_step (offset l forward d)) (Step (ns (offset l forward d))) (measured_with d (used l d) (offset l forward d))))))
           (cond a (huge_again (spent x)) (cond b (path_again (spent x)) (accepting (spent x) forward d)))
@@ -143,7 +143,7 @@ module _ (l : Log) (x : Exchange) (h : Tells l x) (n : ℕ) (c : ℤ) (t4 : Stam
       go false false = accept forward d (used l d) (h.used d) refl
 
   -- ---- a Delay_Resp
-  either : (b : Bool) → Agrees l Resp (cond b (Refused Unmatched) (Refused Unmatched)) (refused Unmatched x)
+  either : (b : Bool) → Agrees l Resp (cond b (Err Unmatched) (Err Unmatched)) (refused Unmatched x)
   either true = refusing l x h Resp Unmatched
   either false = refusing l x h Resp Unmatched
 
@@ -152,14 +152,14 @@ module _ (l : Log) (x : Exchange) (h : Tells l x) (n : ℕ) (c : ℤ) (t4 : Stam
   respond = rw (h.sync, h.request) (go (held_sync l) (origin l) (pending l) (t3 l))
     where
       both : (forward back : ℤ) (a b : Bool)
-          → Agrees l Resp (cond a (responded l (some forward) (cond b (some back) none)) (Refused Unmatched)) (follows x no_local (if-matching (cond b a false) (measures forward back)))
+          → Agrees l Resp (cond a (responded l (some forward) (cond b (some back) none)) (Err Unmatched)) (follows x no_local (if-matching (cond b a false) (measures forward back)))
       both forward back true true = judge forward (sum_of (forward +ℤ back))
       both forward back true false = refusing l x h Resp Unmatched
       both forward back false true = refusing l x h Resp Unmatched
       both forward back false false = refusing l x h Resp Unmatched
 
       go : (s : Option ASync) (o : Option Origin) (r : Option ℕ) (t : Option Stamp)
-          → Agrees l Resp (cond (same_port p own) (responded l (forward_by s o) (back_by r t n t4 c)) (Refused Unmatched)) (follows x no_local (row_by Resp (sync_read s o) (request_read r t)))
+          → Agrees l Resp (cond (same_port p own) (responded l (forward_by s o) (back_by r t n t4 c)) (Err Unmatched)) (follows x no_local (row_by Resp (sync_read s o) (request_read r t)))
       go none o r t = either (same_port p own)
       go (some s) none r t = either (same_port p own)
       go (some s) (some o) none t = either (same_port p own)

@@ -1,4 +1,5 @@
 -- The events before a measurement: what they change of the halves and of the last local stamp, and UNMATCHED and BACK.
+use Rattle.std.specs.Prelude.{Ok, Err}
 use mathlib.Core.Path.{◌≡◌, refl, sym, ◌∙◌}
 use mathlib.Core.List.{List, ◌∷◌}
 use mathlib.Core.Option.{Option, none, some}
@@ -12,7 +13,6 @@ use Rattle.numbers.specs.declared.refusal.Refusal.{Refusal}
 use Rattle.numbers.specs.declared.refusal.Refusal.TheVariants.{Unmatched}
 use Rattle.rules_exchange.specs.declared.Last.{Last}
 use Rattle.rules_exchange.specs.declared.Exchange.{Exchange}
-use Rattle.rules_exchange.specs.declared.Answer.TheVariants.{Refused, Says}
 use Rattle.rules_exchange.specs.declared.said.Said.{Said}
 use Rattle.rules_exchange.specs.declared.said.Said.TheVariants.{Held, Paired, Stamped, Back}
 use Rattle.rules_exchange.specs.Halves.{SyncHalf, knows, RequestHalf, asked, stamped, sync_half, request_half, heard}
@@ -88,14 +88,14 @@ back_read l t = go l.taken
     go false = refl
 
 module _ (l : Log) (x : Exchange) (h : Tells l x) where
-  pub refusing : (e : Event) (n : Refusal) → Agrees l e (Refused n) (refused n x)
+  pub refusing : (e : Event) (n : Refusal) → Agrees l e (Err n) (refused n x)
   refusing e n = record { says = refl; tells = h }
 
-  stamping : (e : Event) (t : Stamp) (s : Said) (y : Exchange) → Agrees l e (Says s) (said_with s (with_last y t)) → Agrees l e (Says (unless_back l t s)) (stamp_taken (stamp t) s x y)
+  stamping : (e : Event) (t : Stamp) (s : Said) (y : Exchange) → Agrees l e (Ok s) (said_with s (with_last y t)) → Agrees l e (Ok (unless_back l t s)) (stamp_taken (stamp t) s x y)
   unfolding stamp_taken
   stamping e t s y q = rw (back_read x.last t, h.last) (go (is_below t (last_local l)))
     where
-      go : (b : Bool) → Agrees l e (Says (cond b Back s)) (cond b (said_with Back x) (said_with s (with_last y t)))
+      go : (b : Bool) → Agrees l e (Ok (cond b Back s)) (cond b (said_with Back x) (said_with s (with_last y t)))
       go true = record { says = refl; tells = fresh-tells }
       go false = q
 
@@ -146,7 +146,7 @@ module _ (l : Log) (x : Exchange) (h : Tells l x) where
     Follow = follow_up n c t1
 
     pairing : (s : ASync) → held_sync l ≡ some s → origin_of (some s) (unspent l) ≡ none → eqb s.sequence n ≡ true
-        → Agrees l Follow (Says Paired) (said_with Paired (with_sync x (knows s.sequence t1 s.t2 s.correction c)))
+        → Agrees l Follow (Ok Paired) (said_with Paired (with_sync x (knows s.sequence t1 s.t2 s.correction c)))
     unfolding events_in answers_in all since
     pairing s p q b =
         record {
@@ -168,12 +168,12 @@ module _ (l : Log) (x : Exchange) (h : Tells l x) where
     follow r = rw h.sync (go (held_sync l) refl (origin l) refl)
       where
         if-wanted : (s : ASync) → held_sync l ≡ some s → origin_of (some s) (unspent l) ≡ none → (b : Bool) → eqb s.sequence n ≡ b
-            → Agrees l Follow (cond b (Says Paired) (Refused Unmatched)) (follows x no_local (if-matching b (puts_sync Paired (knows s.sequence t1 s.t2 s.correction c))))
+            → Agrees l Follow (cond b (Ok Paired) (Err Unmatched)) (follows x no_local (if-matching b (puts_sync Paired (knows s.sequence t1 s.t2 s.correction c))))
         if-wanted s p q true e = pairing s p q e
         if-wanted s p q false e = refusing Follow Unmatched
 
         go : (s : Option ASync) → held_sync l ≡ s → (o : Option Origin) → origin_of s (unspent l) ≡ o
-            → Agrees l Follow (cond (wants_t1 s o n) (Says Paired) (Refused Unmatched)) (follows x no_local (row_by Follow (sync_read s o) r))
+            → Agrees l Follow (cond (wants_t1 s o n) (Ok Paired) (Err Unmatched)) (follows x no_local (row_by Follow (sync_read s o) r))
         go none p o q = refusing Follow Unmatched
         go (some s) p none q = if-wanted s p q (eqb s.sequence n) refl
         go (some s) p (some o) q = refusing Follow Unmatched
@@ -183,7 +183,7 @@ module _ (l : Log) (x : Exchange) (h : Tells l x) where
     abbrev Sent : Event
     Sent = sent n t
 
-    giving : (m : ℕ) → pending l ≡ some m → eqb m n ≡ true → Agrees l Sent (Says Stamped) (said_with Stamped (with_last (with_request x (stamped m t)) t))
+    giving : (m : ℕ) → pending l ≡ some m → eqb m n ≡ true → Agrees l Sent (Ok Stamped) (said_with Stamped (with_last (with_request x (stamped m t)) t))
     unfolding events_in answers_in all since
     giving m p b =
         record {
@@ -205,12 +205,12 @@ module _ (l : Log) (x : Exchange) (h : Tells l x) where
     send s = rw h.request (go (pending l) refl (t3 l))
       where
         if-wanted : (m : ℕ) → pending l ≡ some m → (b : Bool) → eqb m n ≡ b
-            → Agrees l Sent (cond b (Says (unless_back l t Stamped)) (Refused Unmatched)) (follows x (stamp t) (if-matching b (puts_request Stamped (stamped m t))))
+            → Agrees l Sent (cond b (Ok (unless_back l t Stamped)) (Err Unmatched)) (follows x (stamp t) (if-matching b (puts_request Stamped (stamped m t))))
         if-wanted m p true e = stamping Sent t Stamped (with_request x (stamped m t)) (giving m p e)
         if-wanted m p false e = refusing Sent Unmatched
 
         go : (r : Option ℕ) → pending l ≡ r → (u : Option Stamp)
-            → Agrees l Sent (cond (wants_t3 r u n) (Says (unless_back l t Stamped)) (Refused Unmatched)) (follows x (stamp t) (row_by Sent s (request_read r u)))
+            → Agrees l Sent (cond (wants_t3 r u n) (Ok (unless_back l t Stamped)) (Err Unmatched)) (follows x (stamp t) (row_by Sent s (request_read r u)))
         go none p u = refusing Sent Unmatched
         go (some m) p none = if-wanted m p (eqb m n) refl
         go (some m) p (some u) = refusing Sent Unmatched

@@ -1,12 +1,11 @@
 -- From fresh, after any history, the machine of the code gives the answer that the history gives, and its memory tells the log.
+use Rattle.std.specs.Prelude.{Ok, Err}
 use mathlib.Core.Path.{◌≡◌}
 use mathlib.Core.List.{List, [], ◌∷◌}
 use mathlib.Core.Bool.{Bool, true, false, cond}
 use Rattle.numbers.specs.declared.refusal.Refusal.TheVariants.{Correction}
-use Rattle.numbers.specs.declared.ruling.Ruling.TheVariants.{Clear, Barred}
 use Rattle.numbers.specs.Grounds.{first_of, answer_by}
 use Rattle.rules_exchange.specs.declared.Exchange.{Exchange}
-use Rattle.rules_exchange.specs.declared.Answer.TheVariants.{Refused}
 use Rattle.rules_exchange.specs.Table.{Event, sync, follow_up, requested, sent, delay_resp}
 use Rattle.rules_exchange.specs.Events.{refused, correction_in, tells_of, told}
 use Rattle.rules_exchange.proofs.Told.{told_is}
@@ -31,7 +30,7 @@ module _ (l : Log) (x : Exchange) (h : Tells l x) where
   unfolding answer first_of
   step e = rw (told_is x e) (go (correction_in e))
     where
-      go : (b : Bool) → Agrees l e (answer_by Refused (answer_unbarred l e) (cond b (Barred Correction) Clear)) (cond b (refused Correction x) (tells_of x e))
+      go : (b : Bool) → Agrees l e (answer_by Err (answer_unbarred l e) (cond b (Err Correction) (Ok tt))) (cond b (refused Correction x) (tells_of x e))
       go true = refusing l x h e Correction
       go false = by-event e
 

@@ -8,8 +8,8 @@ use lib.ListN.{take}
 use Rattle.numbers.specs.declared.stamp.Stamp.{Stamp}
 use Rattle.rules_exchange.specs.declared.Last.{Last}
 use Rattle.rules_exchange.specs.declared.Exchange.{Exchange}
-use Rattle.rules_exchange.specs.declared.Answer.{Answer}
-use Rattle.rules_exchange.specs.declared.Answered.{Answered}
+use Rattle.rules_exchange.specs.Events.{Answer}
+use Rattle.rules_exchange.specs.Events.{Answered}
 use Rattle.rules_delays.specs.Delays.{accepted_before, used_of, used_by as memory_uses}
 use Rattle.rules_exchange.specs.Halves.{SyncHalf, no_sync, awaits, knows, RequestHalf, no_request, asked, stamped, sync_half, request_half}
 use Rattle.rules_exchange.specs.Said.{Verdict}

@@ -1,8 +1,7 @@
 -- The history: all that happened, the newest first. What the log is after it, and the answer to the next event.
-use Rattle.std.specs.Prelude.{List, [], ◌∷◌, cond}
-use Rattle.rules_exchange.specs.declared.Answer.{Answer}
-use Rattle.rules_exchange.specs.declared.Answer.TheVariants.{Refused, Says}
-use Rattle.rules_exchange.specs.declared.Answered.{Answered}
+use Rattle.std.specs.Prelude.{List, [], ◌∷◌, cond, Ok, Err}
+use Rattle.rules_exchange.specs.Events.{Answer}
+use Rattle.rules_exchange.specs.Events.{Answered}
 use Rattle.rules_exchange.specs.declared.Exchange.{Exchange}
 use Rattle.rules_exchange.specs.Table.{Event}
 use Rattle.rules_exchange.specs.Said.{wipes_of}
@@ -18,8 +17,8 @@ pub data Happening : Type 0 where
 
 -- an event that is refused leaves no line, one that wipes leaves an empty log
 abbrev pub log_with : Event → Answer → Log → Log
-log_with e (Refused n) l = l
-log_with e (Says s) l = cond (wipes_of s) [] (entry e s ∷ l)
+log_with e (Err n) l = l
+log_with e (Ok s) l = cond (wipes_of s) [] (entry e s ∷ l)
 
 unfoldable pub log : List Happening → Log
 log [] = []
@@ -32,8 +31,8 @@ answer_by_history before e = answer (log before) e
 
 -- ---- the machine of the code, for the same history. Where its answer wipes, who asked empties it
 abbrev pub exchange_by : Answer → Exchange → Exchange
-exchange_by (Refused n) x = x
-exchange_by (Says s) x = cond (wipes_of s) fresh_exchange x
+exchange_by (Err n) x = x
+exchange_by (Ok s) x = cond (wipes_of s) fresh_exchange x
 
 abbrev pub exchange_after : Answered → Exchange
 exchange_after r = exchange_by r.answer r.exchange

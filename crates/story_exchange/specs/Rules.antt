@@ -1,5 +1,5 @@
 -- The answer to an event, from the log alone.
-use Rattle.std.specs.Prelude.{List, ◌∷◌, Bool, false, cond, ℕ, leb, ltb, eqb, ℤ, pos, ◌+ℤ◌, ◌-ℤ◌, take}
+use Rattle.std.specs.Prelude.{List, ◌∷◌, Bool, false, cond, ℕ, leb, ltb, eqb, ℤ, pos, ◌+ℤ◌, ◌-ℤ◌, take, Ok, Err}
 use Rattle.std.proofs.Math.Option.{Option, none, some}
 use Rattle.numbers.specs.Stamps.{below_of}
 use Rattle.numbers.specs.Integers.{distance_of}
@@ -7,8 +7,7 @@ use Rattle.numbers.specs.Grounds.{first_of, answer_by}
 use Rattle.numbers.specs.Orders.{none_due, of_exchange}
 use Rattle.numbers.specs.declared.stamp.Stamp.{Stamp}
 use Rattle.numbers.specs.declared.refusal.Refusal.TheVariants.{Unmatched}
-use Rattle.rules_exchange.specs.declared.Answer.{Answer}
-use Rattle.rules_exchange.specs.declared.Answer.TheVariants.{Refused, Says}
+use Rattle.rules_exchange.specs.Events.{Answer}
 use Rattle.rules_exchange.specs.declared.said.Said.{Said}
 use Rattle.rules_exchange.specs.declared.said.Said.TheVariants.{Held, Paired, Asked, Stamped, Back, Neg, Long, Huge, HugeFaulty, Path, PathWiped, Step}
 use Rattle.rules_measure.specs.declared.Sum.{Sum}
@@ -82,18 +81,18 @@ judged l forward (Delay d) =
     (measured_with d (used l d) (offset l forward d))))
 
 abbrev pub responded : Log → Option ℤ → Option ℤ → Answer
-responded l none back = Refused Unmatched
-responded l (some forward) none = Refused Unmatched
-responded l (some forward) (some back) = Says (judged l forward (sum_of (forward +ℤ back)))
+responded l none back = Err Unmatched
+responded l (some forward) none = Err Unmatched
+responded l (some forward) (some back) = Ok (judged l forward (sum_of (forward +ℤ back)))
 
 -- ---- the whole: what bars the event whatever is held, and then what is held
 unfoldable pub answer_unbarred : Log → Event → Answer
-answer_unbarred l (sync two n c t1 t2) = Says (unless_back l t2 Held)
-answer_unbarred l (follow_up n c t1) = cond (wants_t1 (held_sync l) (origin l) n) (Says Paired) (Refused Unmatched)
-answer_unbarred l (requested n) = Says (Asked n)
-answer_unbarred l (sent n t) = cond (wants_t3 (pending l) (t3 l) n) (Says (unless_back l t Stamped)) (Refused Unmatched)
+answer_unbarred l (sync two n c t1 t2) = Ok (unless_back l t2 Held)
+answer_unbarred l (follow_up n c t1) = cond (wants_t1 (held_sync l) (origin l) n) (Ok Paired) (Err Unmatched)
+answer_unbarred l (requested n) = Ok (Asked n)
+answer_unbarred l (sent n t) = cond (wants_t3 (pending l) (t3 l) n) (Ok (unless_back l t Stamped)) (Err Unmatched)
 answer_unbarred l (delay_resp n c t4 p own) =
-    cond (same_port p own) (responded l (forward_by (held_sync l) (origin l)) (back_by (pending l) (t3 l) n t4 c)) (Refused Unmatched)
+    cond (same_port p own) (responded l (forward_by (held_sync l) (origin l)) (back_by (pending l) (t3 l) n t4 c)) (Err Unmatched)
 
 unfoldable pub answer : Log → Event → Answer
-answer l e = answer_by Refused (answer_unbarred l e) (first_of (of_exchange (event_due e none_due)))
+answer l e = answer_by Err (answer_unbarred l e) (first_of (of_exchange (event_due e none_due)))

@@ -1,4 +1,5 @@
 -- From an empty table, after any history, an Announce gets the answer that the history gives, and the master chosen is the one that it gives.
+use Rattle.std.specs.Prelude.{Ok, Err}
 use mathlib.Core.Path.{◌≡◌, refl, sym, ap, ◌∙◌, subst}
 use mathlib.Core.List.{List, [], ◌∷◌, map}
 use mathlib.Core.Option.{none, some}
@@ -9,16 +10,15 @@ use borrow.Author.Tests.{ltb-true, ltb-false, leb-false, eqb-true, eqb-false}
 use lib.Dec.{leb, ltb, eqb}
 use lib.ListN.{length, get_or, set, length-set}
 use lib.Seq.{get_or-set_same, get_or-set_other}
-use Rattle.numbers.specs.declared.ruling.Ruling.{Ruling}
-use Rattle.numbers.specs.declared.ruling.Ruling.TheVariants.{Clear, Barred}
+use Rattle.numbers.specs.Grounds.{Ruling}
+use Rattle.rules_masters.specs.Admitting.{Answer}
+use Rattle.rules_masters.specs.declared.admission.Entry.TheVariants.{Renewed, Entered}
 use Rattle.numbers.specs.Grounds.{first_of}
 use Rattle.wire_layout.specs.declared.message.Port.{Port}
 use Rattle.rules_masters.specs.declared.record.Announce.{Announce}
 use Rattle.rules_masters.specs.declared.record.Record.{Record}
 use Rattle.rules_masters.specs.declared.standing.Standing.{Standing}
-use Rattle.rules_masters.specs.declared.admission.Admitted.{Admitted}
-use Rattle.rules_masters.specs.declared.admission.Answer.{Answer}
-use Rattle.rules_masters.specs.declared.admission.Answer.TheVariants.{Renewed, Entered}
+use Rattle.rules_masters.specs.Admitting.{Admitted}
 use Rattle.rules_masters.specs.Records.{interval_of, live_of, known_of, qualified_of, fresh_record, entered_of, renewed_of}
 use Rattle.rules_masters.specs.Places.{place_of, count_of, fresh_table}
 use Rattle.rules_masters.specs.Admitting.{is_repeat as repeat_in, is_full as full_in, standings_in, accepted_of, grounds_of, admitted_by, admitted_of}
@@ -123,12 +123,12 @@ module _ (interval : ℕ) (l : Log) (k : Memory) (h : Tells interval l k) where
       pub says : r.answer ≡ said
       pub tells : Tells interval (log_by l now m said) (record { table = r.table; last = last_after k.last now r.answer })
 
-    accepts : last_now l ≤ now → full_in asked ≡ false → Agrees (accepted_of T m interval now) (seat_by l m interval now Clear)
+    accepts : last_now l ≤ now → full_in asked ≡ false → Agrees (accepted_of T m interval now) (seat_by l m interval now (Ok tt))
     unfolding accepted_of full_in
     accepts later room =
         rw (known-asked m interval now T, free-asked m interval now T)
-        (subst (λ (p : ℕ). Agrees put (cond (ltb p 5) (Renewed p) (Entered (free l m interval now)))) homes
-        (subst (λ (f : ℕ). Agrees put (cond (ltb P 5) (Renewed P) (Entered f))) frees
+        (subst (λ (p : ℕ). Agrees put (cond (ltb p 5) (Ok (Renewed p)) (Ok (Entered (free l m interval now))))) homes
+        (subst (λ (f : ℕ). Agrees put (cond (ltb P 5) (Ok (Renewed P)) (Ok (Entered f)))) frees
         (go (ltb P 5) refl (rw (known-asked m interval now T, live-asked m interval now T) at room))))
       where
         P : ℕ
@@ -139,14 +139,14 @@ module _ (interval : ℕ) (l : Log) (k : Memory) (h : Tells interval l k) where
 
         put : Admitted
         put =
-            cond (ltb P 5) (record { answer = Renewed P; table = record { records = set T P (renewed_of (get_or T P fresh_record) m now) } })
-            (record { answer = Entered F; table = record { records = set T F (entered_of m now) } })
+            cond (ltb P 5) (record { answer = Ok (Renewed P); table = record { records = set T P (renewed_of (get_or T P fresh_record) m now) } })
+            (record { answer = Ok (Entered F); table = record { records = set T F (entered_of m now) } })
 
         go : (b : Bool) → ltb P 5 ≡ b → (not b && leb 5 (count_of (live_of now interval) T)) ≡ false
             → Agrees
-            (cond b (record { answer = Renewed P; table = record { records = set T P (renewed_of (get_or T P fresh_record) m now) } })
-            (record { answer = Entered F; table = record { records = set T F (entered_of m now) } }))
-            (cond b (Renewed P) (Entered F))
+            (cond b (record { answer = Ok (Renewed P); table = record { records = set T P (renewed_of (get_or T P fresh_record) m now) } })
+            (record { answer = Ok (Entered F); table = record { records = set T F (entered_of m now) } }))
+            (cond b (Ok (Renewed P)) (Ok (Entered F)))
         go true e g =
             let c = ltb-true P 5 e in
             record { says = refl; tells = placed P _ c later (renewed (last_now l) interval now m later (arrivals_at P l) (get_or T P fresh_record) (h.seats P) (known-home c)) }
@@ -166,10 +166,10 @@ module _ (domain : ℕ) (own : Port) (a : ℕ) (l : Log) (k : Memory) (h : Tells
     where
       go : (v : Ruling) → first_of (grounds_of k.table m domain own a k.last now) ≡ v
           → Agrees (interval_of a) l k h m now (admitted_by v k.table (accepted_of k.table.records m (interval_of a) now)) (seat_by l m (interval_of a) now v)
-      go Clear e =
+      go (Ok tt) e =
           let n = clear-announce _ _ _ _ _ (asked (interval_of a) l k h m now) e in
           accepts (interval_of a) l k h m now (rw h.last at (ltb-false now k.last n.0)) n.2
-      go (Barred r) e = record { says = refl; tells = h }
+      go (Err r) e = record { says = refl; tells = h }
 
   -- a call that carries now
   pub step-now : (now : ℕ) → Tells (interval_of a) (cond (ltb now (last_now l)) l (passed now ∷ l)) (record { table = k.table; last = cond (ltb now k.last) k.last now })

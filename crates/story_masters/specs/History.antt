@@ -1,11 +1,11 @@
 -- The history of the masters: all that happened, the newest first; the log after it; and the machine of the code for the same history.
-use Rattle.std.specs.Prelude.{List, [], ◌∷◌, cond, ℕ, ltb}
+use Rattle.std.specs.Prelude.{List, [], ◌∷◌, cond, ℕ, ltb, Ok, Err}
 use Rattle.wire_layout.specs.declared.message.Port.{Port}
 use Rattle.rules_masters.specs.declared.record.Announce.{Announce}
 use Rattle.rules_masters.specs.declared.table.Table.{Table}
-use Rattle.rules_masters.specs.declared.admission.Admitted.{Admitted}
-use Rattle.rules_masters.specs.declared.admission.Answer.{Answer}
-use Rattle.rules_masters.specs.declared.admission.Answer.TheVariants.{Refused, Renewed, Entered}
+use Rattle.rules_masters.specs.Admitting.{Admitted}
+use Rattle.rules_masters.specs.Admitting.{Answer}
+use Rattle.rules_masters.specs.declared.admission.Entry.TheVariants.{Renewed, Entered}
 use Rattle.rules_masters.specs.Admitting.{admitted_of}
 use Rattle.rules_masters.specs.Places.{fresh_table}
 use Rattle.story_masters.specs.Announces.{Log, came, passed, last_now}
@@ -18,9 +18,9 @@ pub data Happening : Type 0 where
 
 -- one that is refused leaves no entry
 abbrev pub log_by : Log → ℕ → Announce → Answer → Log
-log_by l now m (Refused r) = l
-log_by l now m (Renewed p) = came p now m ∷ l
-log_by l now m (Entered p) = came p now m ∷ l
+log_by l now m (Err r) = l
+log_by l now m (Ok (Renewed p)) = came p now m ∷ l
+log_by l now m (Ok (Entered p)) = came p now m ∷ l
 
 module _ (domain : ℕ) (own : Port) (a : ℕ) where
   unfoldable pub log : List Happening → Log
@@ -34,9 +34,9 @@ pub record Memory : Type 0 where
   pub last : ℕ
 
 abbrev pub last_after : ℕ → ℕ → Answer → ℕ
-last_after last now (Refused r) = last
-last_after last now (Renewed p) = now
-last_after last now (Entered p) = now
+last_after last now (Err r) = last
+last_after last now (Ok (Renewed p)) = now
+last_after last now (Ok (Entered p)) = now
 
 module _ (domain : ℕ) (own : Port) (a : ℕ) where
   abbrev pub admission_of : Memory → Announce → ℕ → Admitted

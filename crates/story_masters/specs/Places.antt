@@ -1,16 +1,15 @@
 -- The answer to an Announce, and the choice, from the log alone (rules 3.56, 5.6, 5.7, 5.11 and 5.12).
-use Rattle.std.specs.Prelude.{List, [], ◌∷◌, Bool, true, false, cond, not, ◌&&◌, ℕ, leb, ltb, eqb}
+use Rattle.std.specs.Prelude.{List, [], ◌∷◌, Bool, true, false, cond, not, ◌&&◌, ℕ, leb, ltb, eqb, Ok, Err}
 use Rattle.std.proofs.Math.Option.{Option, none, some}
 use Rattle.numbers.specs.declared.refusal.Refusal.TheVariants.{Repeat, Full}
-use Rattle.numbers.specs.declared.ruling.Ruling.{Ruling}
-use Rattle.numbers.specs.declared.ruling.Ruling.TheVariants.{Clear, Barred}
+use Rattle.numbers.specs.Grounds.{Ruling}
+use Rattle.rules_masters.specs.Admitting.{Answer}
+use Rattle.rules_masters.specs.declared.admission.Entry.TheVariants.{Renewed, Entered}
 use Rattle.numbers.specs.Grounds.{first_of}
 use Rattle.numbers.specs.Orders.{Due, none_due, due_with}
 use Rattle.wire_layout.specs.declared.message.Port.{Port}
 use Rattle.rules_masters.specs.declared.record.Announce.{Announce}
 use Rattle.rules_masters.specs.declared.chosen.Chosen.{Chosen}
-use Rattle.rules_masters.specs.declared.admission.Answer.{Answer}
-use Rattle.rules_masters.specs.declared.admission.Answer.TheVariants.{Refused, Renewed, Entered}
 use Rattle.rules_masters.specs.Admitting.{grounds_with}
 use Rattle.rules_masters.specs.Choosing.{choice_among}
 use Rattle.rules_masters.specs.Holding.{fresh_chosen}
@@ -45,8 +44,8 @@ module _ (l : Log) (m : Announce) (interval now : ℕ) where
   held_due = due_with Repeat is_repeat (due_with Full is_full none_due)
 
   abbrev pub seat_by : Ruling → Answer
-  seat_by Clear = cond (ltb home 5) (Renewed home) (Entered free)
-  seat_by (Barred r) = Refused r
+  seat_by (Ok _) = cond (ltb home 5) (Ok (Renewed home)) (Ok (Entered free))
+  seat_by (Err r) = Err r
 
 -- the first refusal that is due, if one is; else the place
 unfoldable pub answer : ℕ → Port → ℕ → Log → Announce → ℕ → Answer

@@ -1,5 +1,6 @@
 -- What every call's effect has in common: what changes anything is no refusal, the answer says that it wiped exactly where the call wipes, and the
 -- output stays within the limit.
+use Rattle.std.specs.Prelude.{Ok, Err}
 use mathlib.Core.Path.{◌≡◌, refl}
 use mathlib.Core.Bool.{Bool, true, false}
 use Prim.Native.Nat.{ℕ, ◌≤◌}
@@ -7,8 +8,10 @@ use native.Mathlib.Omega.{arith}
 use lib.IntN.{nat_abs}
 use Rattle.numbers.specs.Integers.{up}
 use Rattle.numbers.specs.declared.stamp.Stamp.{Stamp}
-use Rattle.numbers.specs.declared.ruling.Ruling.{Ruling}
-use Rattle.numbers.specs.declared.ruling.Ruling.TheVariants.{Clear, Barred}
+use Rattle.numbers.specs.Grounds.{Ruling}
+use Rattle.rules_masters.specs.Admitting.{Answer as Admission}
+use Rattle.rules_masters.specs.declared.admission.Entry.TheVariants as answers
+use Rattle.rules_exchange.specs.Events.{Answer as Told}
 use Rattle.numbers.specs.Grounds.{first_of}
 use Rattle.numbers.specs.Orders.{of_exchange, of_time}
 use Rattle.wire_layout.specs.declared.message.Header.{Header}
@@ -16,15 +19,11 @@ use Rattle.wire_layout.specs.declared.message.Body.{Body}
 use Rattle.wire_layout.specs.declared.message.Body.TheVariants as bodies
 use Rattle.rules_masters.specs.declared.record.Announce.{Announce}
 use Rattle.rules_masters.specs.declared.table.Table.{Table}
-use Rattle.rules_masters.specs.declared.admission.Answer.{Answer as Admission}
-use Rattle.rules_masters.specs.declared.admission.Answer.TheVariants as answers
 use Rattle.rules_masters.specs.declared.chosen.Decision.{Decision}
 use Rattle.rules_masters.specs.Holding.{chosen_at, same_master_of}
 use Rattle.rules_exchange.specs.declared.Exchange.{Exchange}
 use Rattle.rules_exchange.specs.declared.said.Said.TheVariants as says
-use Rattle.rules_exchange.specs.declared.Answer.{Answer as Told}
-use Rattle.rules_exchange.specs.declared.Answer.TheVariants as tells
-use Rattle.rules_exchange.specs.declared.Answered.{Answered}
+use Rattle.rules_exchange.specs.Events.{Answered}
 use Rattle.rules_exchange.specs.Table.{Event, sync, follow_up, requested, sent, delay_resp}
 use Rattle.rules_exchange.specs.Events.{field_of, exchange_due, tells_of}
 use Rattle.rules_servo.specs.Steps.{held_offset}
@@ -56,30 +55,30 @@ module _ (s : Settings) (k : Stays) (r : Progress) (most : ℕ) (limit : up s.li
   fair-chooses t now = by_test (λ (d : Decision). Fair most (holds_by k r now (chosen_at t.records now s.announce) d)) (same_master_of k.chosen (chosen_at t.records now s.announce)) (refl, (refl, within)) (refl, refl)
 
   fair-admits : (t : Table) (now : ℕ) (a : Admission) → Fair most (admits s k r t now a)
-  fair-admits t now (answers.Refused n) = refl
-  fair-admits t now (answers.Renewed place) = fair-chooses t now
-  fair-admits t now (answers.Entered place) = fair-chooses t now
+  fair-admits t now (Err n) = refl
+  fair-admits t now (Ok (answers.Renewed place)) = fair-chooses t now
+  fair-admits t now (Ok (answers.Entered place)) = fair-chooses t now
 
   fair-answer : (m : Stays) (a : Told) (x : Exchange) → Fair most (by_answer s m r a x)
   unfolding by_said
-  fair-answer m (tells.Refused n) x = refl
-  fair-answer m (tells.Says says.Held) x = (refl, (refl, within))
-  fair-answer m (tells.Says says.Paired) x = (refl, (refl, within))
-  fair-answer m (tells.Says (says.Asked n)) x = (refl, (refl, within))
-  fair-answer m (tells.Says says.Stamped) x = (refl, (refl, within))
-  fair-answer m (tells.Says says.Back) x = (refl, refl)
-  fair-answer m (tells.Says says.Neg) x = (refl, (refl, within))
-  fair-answer m (tells.Says says.Long) x = (refl, (refl, within))
-  fair-answer m (tells.Says says.Huge) x = (refl, (refl, within))
-  fair-answer m (tells.Says says.HugeFaulty) x = (refl, (refl, within))
-  fair-answer m (tells.Says says.Path) x = (refl, (refl, within))
-  fair-answer m (tells.Says says.PathWiped) x = (refl, refl)
-  fair-answer m (tells.Says (says.Step offset)) x = (refl, refl)
-  fair-answer m (tells.Says (says.Measured found)) x = (refl, (refl, omega (arith, output-kept r.servo (held_offset found.offset.0) s.sync s.limit.0)))
+  fair-answer m (Err n) x = refl
+  fair-answer m (Ok says.Held) x = (refl, (refl, within))
+  fair-answer m (Ok says.Paired) x = (refl, (refl, within))
+  fair-answer m (Ok (says.Asked n)) x = (refl, (refl, within))
+  fair-answer m (Ok says.Stamped) x = (refl, (refl, within))
+  fair-answer m (Ok says.Back) x = (refl, refl)
+  fair-answer m (Ok says.Neg) x = (refl, (refl, within))
+  fair-answer m (Ok says.Long) x = (refl, (refl, within))
+  fair-answer m (Ok says.Huge) x = (refl, (refl, within))
+  fair-answer m (Ok says.HugeFaulty) x = (refl, (refl, within))
+  fair-answer m (Ok says.Path) x = (refl, (refl, within))
+  fair-answer m (Ok says.PathWiped) x = (refl, refl)
+  fair-answer m (Ok (says.Step offset)) x = (refl, refl)
+  fair-answer m (Ok (says.Measured found)) x = (refl, (refl, omega (arith, output-kept r.servo (held_offset found.offset.0) s.sync s.limit.0)))
 
   fair-unless : (v : Ruling) (e : Effect) → Fair most e → Fair most (unless v e)
-  fair-unless Clear e f = f
-  fair-unless (Barred n) e f = refl
+  fair-unless (Ok _) e f = f
+  fair-unless (Err n) e f = refl
 
   fair-exchanged : (v : Ruling) (m : Stays) (a : Answered) → Fair most (unless v (exchanges s m r a))
   fair-exchanged v m a = fair-unless v (exchanges s m r a) (fair-answer m a.answer a.exchange)

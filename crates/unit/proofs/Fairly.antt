@@ -1,4 +1,5 @@
 -- What is common to every call but a pulse, at the unit: its effect is fair, and so what `after` puts in place is what the effect says.
+use Rattle.std.specs.Prelude.{Ok, Err}
 use mathlib.Core.Path.{◌≡◌, refl}
 use mathlib.Core.Bool.{cond}
 use Prim.Native.Nat.{ℕ, ◌+◌, ◌≤◌}
@@ -11,9 +12,7 @@ use Rattle.wire_layout.specs.declared.message.Body.{Body}
 use Rattle.wire_layout.specs.declared.message.Body.TheVariants as bodies
 use Rattle.wire_layout.specs.declared.message.Offer.{Offer}
 use Rattle.rules_masters.specs.declared.table.Table.{Table}
-use Rattle.rules_watch.specs.declared.Drift.{Drift}
-use Rattle.rules_watch.specs.declared.Drift.TheVariants as drift
-use Rattle.rules_watch.specs.declared.judging.Outcome.{Outcome}
+use Rattle.rules_watch.specs.Rules.{Outcome, Drift}
 use Rattle.rules_watch.specs.Watch.{fresh_watch}
 use Rattle.rules_settings.specs.declared.Settings.{Settings}
 use Rattle.unit_core.specs.declared.calls.Call.{Call}
@@ -52,8 +51,8 @@ module _ (s : Settings) (k : Stays) (r : Progress) (t : Table) (most : ℕ) (lim
   fair-call count pulse line (Time now) = fair-time s k r most limit within t now
   fair-call count pulse line Reset = (refl, refl)
   fair-call count pulse line (Tick reference clock) = refl
-  fair-call count pulse (drift.Refused n) Line = refl
-  fair-call count pulse (drift.Line line) Line = refl
+  fair-call count pulse (Err n) Line = refl
+  fair-call count pulse (Ok line) Line = refl
   fair-call count pulse line Show = refl
 
 module _ (c : Unit) where

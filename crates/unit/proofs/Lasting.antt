@@ -1,10 +1,13 @@
 -- Only a reset ends FAULTY: no other call's effect does.
+use Rattle.std.specs.Prelude.{Ok, Err}
 use mathlib.Core.Path.{◌≡◌, refl}
 use mathlib.Core.Bool.{Bool, true}
 use Prim.Native.Nat.{ℕ}
 use Rattle.numbers.specs.declared.stamp.Stamp.{Stamp}
-use Rattle.numbers.specs.declared.ruling.Ruling.{Ruling}
-use Rattle.numbers.specs.declared.ruling.Ruling.TheVariants.{Clear, Barred}
+use Rattle.numbers.specs.Grounds.{Ruling}
+use Rattle.rules_masters.specs.Admitting.{Answer as Admission}
+use Rattle.rules_masters.specs.declared.admission.Entry.TheVariants as answers
+use Rattle.rules_exchange.specs.Events.{Answer as Told}
 use Rattle.numbers.specs.Grounds.{first_of}
 use Rattle.numbers.specs.Orders.{of_exchange, of_time}
 use Rattle.wire_layout.specs.declared.message.Header.{Header}
@@ -12,20 +15,16 @@ use Rattle.wire_layout.specs.declared.message.Body.{Body}
 use Rattle.wire_layout.specs.declared.message.Body.TheVariants as bodies
 use Rattle.rules_masters.specs.declared.record.Announce.{Announce}
 use Rattle.rules_masters.specs.declared.table.Table.{Table}
-use Rattle.rules_masters.specs.declared.admission.Answer.{Answer as Admission}
-use Rattle.rules_masters.specs.declared.admission.Answer.TheVariants as answers
 use Rattle.rules_masters.specs.declared.chosen.Decision.{Decision}
 use Rattle.rules_masters.specs.Holding.{chosen_at, same_master_of}
 use Rattle.rules_exchange.specs.declared.Exchange.{Exchange}
 use Rattle.rules_exchange.specs.declared.said.Said.{Said}
 use Rattle.rules_exchange.specs.Said.{wipes_of, faults_of, steers_of}
-use Rattle.rules_exchange.specs.declared.Answer.{Answer as Told}
-use Rattle.rules_exchange.specs.declared.Answer.TheVariants as tells
-use Rattle.rules_exchange.specs.declared.Answered.{Answered}
+use Rattle.rules_exchange.specs.Events.{Answered}
 use Rattle.rules_exchange.specs.Table.{Event, sync, follow_up, requested, sent, delay_resp}
 use Rattle.rules_exchange.specs.Events.{field_of, exchange_due, tells_of}
-use Rattle.rules_watch.specs.declared.judging.Outcome.{Outcome}
-use Rattle.rules_watch.specs.declared.judging.Outcome.TheVariants.{Refuse, Wipe, Take}
+use Rattle.rules_watch.specs.Rules.{Outcome}
+use Rattle.rules_watch.specs.declared.judging.Judged.TheVariants.{Wipe, Take}
 use Rattle.rules_settings.specs.declared.Settings.{Settings}
 use Rattle.unit_core.specs.Effects.{Stays, Progress, Effect, keeps, goes, takes, wipes, unless, with_now}
 use Rattle.unit_choosing.specs.Choosing.{time_due, admission, holds_by, chooses, admits, announces, time_passes}
@@ -49,17 +48,17 @@ module _ (s : Settings) (k : Stays) (r : Progress) (faulty : k.faulty ≡ true) 
   lasts-chooses t now = by_test (λ (d : Decision). Lasting (holds_by k r now (chosen_at t.records now s.announce) d)) (same_master_of k.chosen (chosen_at t.records now s.announce)) faulty faulty
 
   lasts-admits : (t : Table) (now : ℕ) (a : Admission) → Lasting (admits s k r t now a)
-  lasts-admits t now (answers.Refused n) = tt
-  lasts-admits t now (answers.Renewed place) = lasts-chooses t now
-  lasts-admits t now (answers.Entered place) = lasts-chooses t now
+  lasts-admits t now (Err n) = tt
+  lasts-admits t now (Ok (answers.Renewed place)) = lasts-chooses t now
+  lasts-admits t now (Ok (answers.Entered place)) = lasts-chooses t now
 
   pub lasts-announce : (t : Table) (now : ℕ) (m : Announce) → Lasting (announces s k r t now m)
   unfolding announces
   lasts-announce t now m = lasts-admits (admission s k t now m).table now (admission s k t now m).answer
 
   lasts-unless : (v : Ruling) (e : Effect) → Lasting e → Lasting (unless v e)
-  lasts-unless Clear e f = f
-  lasts-unless (Barred n) e f = tt
+  lasts-unless (Ok _) e f = f
+  lasts-unless (Err n) e f = tt
 
   pub lasts-time : (t : Table) (now : ℕ) → Lasting (time_passes s k r t now)
   unfolding time_passes
@@ -70,8 +69,8 @@ module _ (s : Settings) (k : Stays) (r : Progress) (faulty : k.faulty ≡ true) 
   lasts-said m f x said = by_test Lasting (wipes_of said) f (by_test Lasting (faults_of said) refl (by_test Lasting (steers_of said) f f))
 
   lasts-answer : (m : Stays) → m.faulty ≡ true → (a : Told) (x : Exchange) → Lasting (by_answer s m r a x)
-  lasts-answer m f (tells.Refused n) x = tt
-  lasts-answer m f (tells.Says said) x = lasts-said m f x said
+  lasts-answer m f (Err n) x = tt
+  lasts-answer m f (Ok said) x = lasts-said m f x said
 
   lasts-exchanged : (v : Ruling) (m : Stays) → m.faulty ≡ true → (a : Answered) → Lasting (unless v (exchanges s m r a))
   lasts-exchanged v m f a = lasts-unless v (exchanges s m r a) (lasts-answer m f a.answer a.exchange)
@@ -96,6 +95,6 @@ module _ (s : Settings) (k : Stays) (r : Progress) (faulty : k.faulty ≡ true) 
   lasts-sent now sequence t3 = lasts-exchanged (first_of (of_exchange (exchange_due r.exchange (sent sequence t3) (own_due k now (field_of t3))))) (with_now now k) faulty (tells_of r.exchange (sent sequence t3))
 
   pub lasts-tick : (o : Outcome) → Lasting (ticks k o)
-  lasts-tick (Refuse n) = tt
-  lasts-tick (Wipe p) = faulty
-  lasts-tick (Take origin x) = tt
+  lasts-tick (Err n) = tt
+  lasts-tick (Ok (Wipe p)) = faulty
+  lasts-tick (Ok (Take origin x)) = tt

@@ -1,4 +1,5 @@
 -- A refusal leaves the unit as it was, whatever its bits are.
+use Rattle.std.specs.Prelude.{Ok, Err}
 use mathlib.Core.Path.{◌≡◌, refl, sym, ◌∙◌, subst}
 use mathlib.Core.Bool.{Bool, true, false}
 use Prim.Native.Nat.{ℕ}
@@ -9,9 +10,8 @@ use Rattle.wire_layout.specs.declared.message.Body.{Body}
 use Rattle.wire_layout.specs.declared.message.Body.TheVariants as bodies
 use Rattle.rules_masters.specs.declared.record.Announce.{Announce}
 use Rattle.rules_masters.specs.declared.table.Table.{Table}
-use Rattle.rules_masters.specs.declared.admission.Admitted.{Admitted}
-use Rattle.numbers.specs.declared.ruling.Ruling.{Ruling}
-use Rattle.numbers.specs.declared.ruling.Ruling.TheVariants.{Clear, Barred}
+use Rattle.rules_masters.specs.Admitting.{Admitted}
+use Rattle.numbers.specs.Grounds.{Ruling}
 use Rattle.rules_masters.specs.Records.{interval_of}
 use Rattle.numbers.specs.Grounds.{first_of}
 use Rattle.rules_masters.specs.Holding.{chosen_at, decision_of, wipes_of}
@@ -53,8 +53,8 @@ module _ (c : Unit) where
 
   by-verdict : (m : Announce) (interval now : ℕ) (v : Ruling) → Refused (ends now (admitted_by v c.table (accepted_of c.table.records m interval now)))
       → (admitted_by v c.table (accepted_of c.table.records m interval now)).table ≡ c.table
-  by-verdict m interval now Clear h = absurd (not-accepted m interval now h)
-  by-verdict m interval now (Barred n) h = refl
+  by-verdict m interval now (Ok _) h = absurd (not-accepted m interval now h)
+  by-verdict m interval now (Err n) h = refl
 
   same-table : (now : ℕ) (arrival : Stamp) (h : Header) (b : Body)
       → Refused (receives c.core.settings (stays_of c.core) (progress_of c.core c.servo) c.table now arrival h b)

@@ -1,4 +1,5 @@
 -- The unit's memory against the machine in the middle: what it tells of it, and that every call keeps it so.
+use Rattle.std.specs.Prelude.{Ok, Err}
 use mathlib.Core.Path.{◌≡◌, refl, sym, ap, ◌∙◌}
 use mathlib.Core.List.{List, [], ◌∷◌, reverse, reverse_aux}
 use Prim.Native.Nat.{ℕ, suc, ◌≤◌, ◌%◌, ◌^◌}
@@ -6,9 +7,8 @@ use native.Mathlib.Omega.{arith}
 use lib.IntN.{ℤ}
 use Rattle.numbers.specs.Integers.{up}
 use Rattle.rules_masters.specs.declared.table.Table.{Table}
-use Rattle.rules_watch.specs.declared.Drift.{Drift}
-use Rattle.rules_watch.specs.declared.judging.Outcome.{Outcome}
-use Rattle.rules_watch.specs.declared.judging.Outcome.TheVariants.{Refuse, Wipe, Take}
+use Rattle.rules_watch.specs.Rules.{Outcome, Drift}
+use Rattle.rules_watch.specs.declared.judging.Judged.TheVariants.{Wipe, Take}
 use Rattle.rules_watch.specs.Rules.{outcome, line_since, since_by}
 use Rattle.rules_watch.specs.Watch.{taken_by, next_watch}
 use Rattle.rules_watch.proofs.Story.{Good, fresh-good, same_outcome, good-takes, next-taken, good-keeps, good-line}
@@ -105,9 +105,9 @@ module _ {s : Settings} {p : Past} {c : Unit} (t : Tells s p c) where
 
   pulse-told : (x : Table) (o : Outcome) → Good s.watch (since_by p.since o) (next_watch (taken_by s.watch c.watch o))
       → Tells s (past_by s p x (ticks p.stays o)) (applied c x (ticks p.stays o)).unit
-  pulse-told x (Refuse n) g = kept-told x (Refused n)
-  pulse-told x (Wipe a) g = wiped-told x (Watched a) p.stays
-  pulse-told x (Take origin y) g =
+  pulse-told x (Err n) g = kept-told x (Refused n)
+  pulse-told x (Ok (Wipe a)) g = wiped-told x (Watched a) p.stays
+  pulse-told x (Ok (Take origin y)) g =
       record { settings = t.settings; stays = t.stays; table = refl; progress = t.progress; count = t.count; watch = rw (t.settings, sym (next-taken s.watch c.watch origin y)) g; within = t.within }
 
   fair : (call : Call) → Fairly (up s.limit.0) call (effect_after s p call)

@@ -6,8 +6,7 @@ use Rattle.rules_masters.specs.declared.table.Table.{Table}
 use Rattle.rules_masters.specs.Places.{fresh_table}
 use Rattle.rules_watch.specs.declared.settings.WatchSettings.{WatchSettings}
 use Rattle.rules_watch.specs.declared.Watch.{Watch}
-use Rattle.rules_watch.specs.declared.Drift.{Drift}
-use Rattle.rules_watch.specs.declared.judging.Outcome.{Outcome}
+use Rattle.rules_watch.specs.Rules.{Outcome, Drift}
 use Rattle.rules_watch.specs.Rules.{outcome}
 use Rattle.rules_watch.specs.Watch.{fresh_watch, since_of, watch_line}
 use Rattle.rules_settings.specs.declared.Settings.{Settings}

@@ -21,7 +21,6 @@ use unit_measuring::hearing::heard;
 use unit_ticking::{line, tick};
 use wire_layout::message::{Body, Message};
 
-#[repr(C)]
 #[derive(Clone, Copy)]
 pub struct Unit {
     pub core: Core,
@@ -40,11 +39,9 @@ impl Unit {
     pub fn fresh(settings: Settings) -> Unit
         ensures { result ≡ fresh_unit settings }
     {
-        let fresh = Fresh::with(settings.kp, settings.ki);
-        let servo = fresh.servo;
         Unit {
             core: Core::fresh(settings),
-            servo,
+            servo: Fresh::with(settings.kp, settings.ki).servo,
             table: Table::fresh(),
             watch: Watch::fresh(),
         }
@@ -54,15 +51,15 @@ impl Unit {
     fn after(mut self, moved: Moved) -> Stepped
         ensures { result ≡ stepped_after self moved }
     {
-        let core = moved.core;
-        let servo = moved.servo;
-        let answer = moved.answer;
-        self.core = core;
-        self.servo = servo;
+        self.core = moved.core;
+        self.servo = moved.servo;
         if moved.wipes {
             self.watch = Watch::fresh();
         }
-        Stepped { answer, unit: self }
+        Stepped {
+            answer: moved.answer,
+            unit: self,
+        }
     }
 
     // A call that changes nothing.
@@ -76,22 +73,18 @@ impl Unit {
     fn receive(mut self, now: u64, arrival: Stamp, m: Message) -> Stepped
         ensures { result ≡ receive_of self now arrival m }
     {
-        let core = self.core;
-        let header = m.header;
-        let body = m.body;
-        match body {
+        match m.body {
             Body::Announce(stamp, offer) => {
                 let m = Announce {
-                    header,
+                    header: m.header,
                     stamp,
                     offer,
                 };
-                let seated = announce(core, self.servo, self.table, now, m);
-                let table = seated.table;
-                self.table = table;
+                let seated = announce(self.core, self.servo, self.table, now, m);
+                self.table = seated.table;
                 self.after(seated.moved)
             }
-            _ => self.after(heard(core, self.servo, now, arrival, m)),
+            _ => self.after(heard(self.core, self.servo, now, arrival, m)),
         }
     }
 
@@ -99,10 +92,8 @@ impl Unit {
     fn pulse(mut self, reference: i64, clock: i64) -> Stepped
         ensures { result ≡ step_of self (Call.Tick reference clock) }
     {
-        let core = self.core;
-        let ticked = tick(core, self.servo, self.watch, reference, clock);
-        let watch = ticked.watch;
-        self.watch = watch;
+        let ticked = tick(self.core, self.servo, self.watch, reference, clock);
+        self.watch = ticked.watch;
         self.after(ticked.moved)
     }
 
@@ -110,18 +101,17 @@ impl Unit {
     pub fn step(self, call: Call) -> Stepped
         ensures { result ≡ step_of self call }
     {
-        let core = self.core;
         match call {
             Call::Receive(now, arrival, m) => self.receive(now, arrival, m),
-            Call::Request(now, room) => self.after(request(core, self.servo, now, room)),
+            Call::Request(now, room) => self.after(request(self.core, self.servo, now, room)),
             Call::Sent(now, sequence, t3) => {
-                self.after(sent(core, self.servo, now, sequence, t3))
+                self.after(sent(self.core, self.servo, now, sequence, t3))
             }
-            Call::Time(now) => self.after(time(core, self.servo, self.table, now)),
-            Call::Reset => self.after(core.reset()),
+            Call::Time(now) => self.after(time(self.core, self.servo, self.table, now)),
+            Call::Reset => self.after(self.core.reset()),
             Call::Tick(reference, clock) => self.pulse(reference, clock),
-            Call::Line => self.says(line(core, self.watch)),
-            Call::Show => self.says(core.show(self.servo)),
+            Call::Line => self.says(line(self.core, self.watch)),
+            Call::Show => self.says(self.core.show(self.servo)),
         }
     }
 }

@@ -1,14 +1,14 @@
 -- What an Announce and the bare time call do.
-use Rattle.std.specs.Prelude.{ℕ, cond, ltb}
+use Rattle.std.specs.Prelude.{ℕ, cond, ltb, Ok, Err}
 use Rattle.numbers.specs.declared.refusal.Refusal.TheVariants.{Now}
 use Rattle.numbers.specs.Grounds.{first_of}
 use Rattle.numbers.specs.Orders.{Due, none_due, due_with, of_time}
 use Rattle.rules_masters.specs.declared.record.Announce.{Announce}
 use Rattle.rules_masters.specs.declared.table.Table.{Table}
 use Rattle.rules_masters.specs.declared.chosen.Chosen.{Chosen}
-use Rattle.rules_masters.specs.declared.admission.Admitted.{Admitted}
-use Rattle.rules_masters.specs.declared.admission.Answer.{Answer as Admission}
-use Rattle.rules_masters.specs.declared.admission.Answer.TheVariants.{Refused as NotAdmitted, Renewed, Entered}
+use Rattle.rules_masters.specs.Admitting.{Admitted}
+use Rattle.rules_masters.specs.Admitting.{Answer as Admission}
+use Rattle.rules_masters.specs.declared.admission.Entry.TheVariants.{Renewed, Entered}
 use Rattle.rules_masters.specs.declared.chosen.Decision.{Decision}
 use Rattle.rules_masters.specs.Holding.{chosen_at, decision_of, wipes_of}
 use Rattle.rules_masters.specs.Admitting.{admitted_of}
@@ -41,9 +41,9 @@ module _ (s : Settings) (k : Stays) (r : Progress) (t : Table) (now : ℕ) where
 
   -- by the table's answer, where this is the table after it
   abbrev pub admits : Admission → Effect
-  admits (NotAdmitted n) = keeps (Refused n)
-  admits (Renewed place) = chooses
-  admits (Entered place) = chooses
+  admits (Err n) = keeps (Refused n)
+  admits (Ok (Renewed place)) = chooses
+  admits (Ok (Entered place)) = chooses
 
   -- the bare time call
   unfoldable pub time_passes : Effect

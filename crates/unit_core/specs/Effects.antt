@@ -1,7 +1,6 @@
 -- What a call can do to the unit, and core and servo after it.
-use Rattle.std.specs.Prelude.{ℕ, Bool, true, false, ℤ}
-use Rattle.numbers.specs.declared.ruling.Ruling.{Ruling}
-use Rattle.numbers.specs.declared.ruling.Ruling.TheVariants.{Clear, Barred}
+use Rattle.std.specs.Prelude.{ℕ, Bool, true, false, ℤ, Ok, Err}
+use Rattle.numbers.specs.Grounds.{Ruling}
 use Rattle.rules_masters.specs.declared.chosen.Chosen.{Chosen}
 use Rattle.rules_exchange.specs.declared.Exchange.{Exchange}
 use Rattle.rules_servo.specs.declared.Servo.{Servo}
@@ -47,8 +46,8 @@ pub data Effect : Type 0 where
 
 -- a refusal keeps everything
 abbrev pub unless : Ruling → Effect → Effect
-unless Clear e = e
-unless (Barred n) e = keeps (Refused n)
+unless (Ok _) e = e
+unless (Err n) e = keeps (Refused n)
 
 -- the now of an accepted call
 abbrev pub with_now : ℕ → Stays → Stays

@@ -21,13 +21,13 @@ pub enum Call {
     Show,
 }
 
-// What the port shows.
+// What the port shows, by its number at the door.
 #[derive(Clone, Copy)]
 pub enum PortState {
-    Faulty,
-    Listening,
-    Uncalibrated,
-    Slave,
+    Faulty = 0,
+    Listening = 1,
+    Uncalibrated = 2,
+    Slave = 3,
 }
 
 #[derive(Clone, Copy)]
@@ -44,7 +44,7 @@ pub struct Shows {
 // The answers of the choice, of the exchange and of the watch are one case each. Which of them wipe is said in specs/Answers.antt.
 #[derive(Clone, Copy)]
 pub enum Answer {
-    Refused(Refusal),
+    Refused(Refusal), // one of the cases: whatever is asked of a list of calls is one answer for each
     Choice(Decision), // of an Announce, or of a time call
     Exchange(Said, Ppb), // with the output that is set after it
     Watch(Pulse),

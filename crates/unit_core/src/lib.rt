@@ -17,7 +17,6 @@ use rules_settings::Settings;
 use run::{Fresh, Run, one_more};
 
 // What belongs to one domain.
-#[repr(C)]
 #[derive(Clone, Copy)]
 pub struct Domain {
     pub chosen: Chosen,
@@ -27,7 +26,7 @@ pub struct Domain {
     pub sequence: u16, // of the next request
 }
 
-#[repr(C)]
+// The servo goes beside it and not in it: C lends it as a record of its own (rule 8.9).
 #[derive(Clone, Copy)]
 pub struct Core {
     pub settings: Settings,
@@ -39,7 +38,7 @@ pub struct Core {
 #[derive(Clone, Copy)]
 pub struct Moved {
     pub answer: Answer,
-    pub wipes: bool, // whoever holds the watch is to make it fresh
+    pub wipes: bool, // whoever holds the watch is to make it fresh; core and servo are there either way
     pub core: Core,
     pub servo: Servo,
 }
@@ -48,11 +47,9 @@ impl Core {
     pub fn fresh(settings: Settings) -> Core
         ensures { result ≡ fresh_core settings }
     {
-        let fresh = Fresh::with(settings.kp, settings.ki);
-        let run = fresh.run;
         let domain = Domain {
             chosen: Chosen::fresh(),
-            run,
+            run: Run::fresh(),
             wipes: 0,
             faulty: false,
             sequence: 0,
@@ -64,11 +61,11 @@ impl Core {
         }
     }
 
-    // A refusal returns its number, and what came in.
-    pub fn refuse(self, servo: Servo, number: Refusal) -> Moved
-        ensures { result ≡ kept_core self servo (Answer.Refused number) }
+    // A refusal is the answer, and what came in stays. No call ends by ? at one: the unit's answer is a value like any other.
+    pub fn refuse(self, servo: Servo, refusal: Refusal) -> Moved
+        ensures { result ≡ kept_core self servo (Answer.Refused refusal) }
     {
-        self.keep(servo, Answer::Refused(number))
+        self.keep(servo, Answer::Refused(refusal))
     }
 
     // Nothing but the answer.
@@ -87,19 +84,15 @@ impl Core {
     pub fn wipe(mut self, now: u64, answer: Answer) -> Moved
         ensures { result ≡ wiped_core self answer (with_now now (stays_of self)) }
     {
-        let mut domain = self.domain;
         let fresh = Fresh::with(self.settings.kp, self.settings.ki);
-        let run = fresh.run;
-        let servo = fresh.servo;
-        domain.run = run;
-        domain.wipes = one_more(domain.wipes);
+        self.domain.run = fresh.run;
+        self.domain.wipes = one_more(self.domain.wipes);
         self.now = now;
-        self.domain = domain;
         Moved {
             answer,
             wipes: true,
             core: self,
-            servo,
+            servo: fresh.servo,
         }
     }
 
@@ -107,9 +100,7 @@ impl Core {
     pub fn reset(mut self) -> Moved
         ensures { result ≡ wiped_core self Answer.Wiped (unlocked (stays_of self)) }
     {
-        let mut domain = self.domain;
-        domain.faulty = false;
-        self.domain = domain;
+        self.domain.faulty = false;
         self.wipe(self.now, Answer::Wiped)
     }
 }

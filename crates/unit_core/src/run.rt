@@ -1,4 +1,4 @@
-// What a wipe empties, and the one place where it is made fresh, for the unit and for the door. The watch's columns are emptied by rules_watch::empty.
+// What a wipe empties, and the one place where it is made fresh, for the unit and for the door. The watch is emptied by Watch::empty.
 ghost use Rattle.std.specs.Prelude.{◌≡◌};
 ghost use Rattle.unit_core.specs.Wipe.{fresh_run, fresh_with, one_more};
 
@@ -6,12 +6,11 @@ use rules_exchange::Exchange;
 use rules_servo::Servo;
 
 // What is emptied of the core: one value, so that nothing can stay behind.
-#[repr(C)]
 #[derive(Clone, Copy)]
 pub struct Run {
     pub exchange: Exchange,
     pub measured: bool, // a measurement was accepted since the wipe ..
-    pub at: u64, // .. the last one at this now
+    pub at: u64, // .. the last one at this now. It stays beside its flag: `parts-told` of door_loop tells what C's octets hold under a flag of 0 too
 }
 
 // All that a wipe empties but the watch.
@@ -49,5 +48,5 @@ impl Fresh {
 pub fn one_more(count: u32) -> u32
     ensures { result ≡ one_more count }
 {
-    ((count as u64 + 1) % 4_294_967_296) as u32
+    count.wrapping_add(1)
 }

@@ -3,8 +3,8 @@ ghost use Rattle.std.specs.Prelude.{◌≡◌};
 ghost use Rattle.unit_core.specs.Effects.{stays_of, progress_of};
 ghost use Rattle.unit_core.specs.Showing.{port_of, shows_of};
 
-use crate::Core;
 use crate::calls::{Answer, PortState, Shows};
+use crate::{Core, Domain};
 use rules_servo::Servo;
 use rules_servo::shown::holdover;
 
@@ -29,18 +29,21 @@ impl Core {
     pub fn shows(self, servo: Servo) -> Shows
         ensures { result ≡ shows_of (stays_of self) (progress_of self servo) self.domain.wipes }
     {
-        let domain = self.domain;
-        let run = domain.run;
-        let output = servo.output;
-        let master = domain.chosen;
+        let Domain {
+            chosen: master,
+            run,
+            wipes,
+            faulty,
+            sequence,
+        } = self.domain;
         Shows {
-            port: port(domain.faulty, master.some, run.measured),
+            port: port(faulty, master.some, run.measured),
             servo: servo.shows(holdover(run.measured, run.at, self.now)),
-            output,
+            output: servo.output,
             now: self.now,
             master,
-            wipes: domain.wipes,
-            sequence: domain.sequence,
+            wipes,
+            sequence,
         }
     }
 

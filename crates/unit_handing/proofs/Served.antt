@@ -1,11 +1,12 @@
 -- Calls as they are handed over: a refusal leaves unit and frame as they were, and a list of them is the list of those that reach the unit.
+use Rattle.std.specs.Prelude.{Ok, Err}
 use mathlib.Core.Path.{◌≡◌, refl, ◌∙◌}
 use mathlib.Core.Bool.{true}
 use mathlib.Core.List.{List, [], ◌∷◌, reverse, reverse_aux}
 use Prim.Native.Nat.{ℕ}
 use lib.ListN.{length}
-use Rattle.numbers.specs.declared.ruling.Ruling.{Ruling}
-use Rattle.numbers.specs.declared.ruling.Ruling.TheVariants as rulings
+use Rattle.numbers.specs.Grounds.{Ruling}
+use Rattle.unit_handing.specs.Handing.{Asked}
 use Rattle.numbers.specs.Grounds.{first_of}
 use Rattle.rules_exchange.specs.Table.{requested, row_by}
 use Rattle.rules_exchange.specs.Events.{tells_of, stamp_taken}
@@ -16,8 +17,6 @@ use Rattle.unit_core.specs.Answers.{is_refusal}
 use Rattle.unit_measuring.specs.Measuring.{by_said, exchanges}
 use Rattle.unit_measuring.specs.Asking.{request_grounds, with_next_sequence, requests}
 use Rattle.unit_measuring.specs.Frame.{frame_by}
-use Rattle.unit_handing.specs.declared.Asked.{Asked}
-use Rattle.unit_handing.specs.declared.Asked.TheVariants.{Barred, Asks}
 use Rattle.unit.specs.declared.Unit.{Unit}
 use Rattle.unit.specs.Calls.{applied}
 use Rattle.unit_handing.specs.Handing.{Handed, receive, request, sent, time, reset, tick, line, show, asked_of, stepped_by, served_of, frame_in, frame_left, served_all, with_asked, calls_in}
@@ -26,8 +25,8 @@ use Rattle.unit.proofs.Simulation.{played}
 
 -- ---- a refusal leaves the unit as it was, ..
 kept : (c : Unit) (a : Asked) → is_refusal (stepped_by c a).answer ≡ true → (stepped_by c a).unit ≡ c
-kept c (Barred r) e = refl
-kept c (Asks call) e = refused-same c call e
+kept c (Err r) e = refl
+kept c (Ok call) e = refused-same c call e
 
 pub refusal-keeps : (c : Unit) (call : Handed ℕ) → is_refusal (served_of c call).answer ≡ true → (served_of c call).unit ≡ c
 unfolding served_of
@@ -38,8 +37,8 @@ frame-by : (c : Unit) (now : ℕ) (v : Ruling) (f : List ℕ)
     → is_refusal (applied c c.table (unless v (exchanges c.core.settings (with_next_sequence now (stays_of c.core)) (progress_of c.core c.servo) (tells_of c.core.domain.run.exchange (requested c.core.domain.sequence))))).answer ≡ true
     → frame_by v (request_of c.core.settings.domain c.core.settings.own c.core.domain.sequence) f ≡ f
 unfolding tells_of row_by stamp_taken by_said
-frame-by c now rulings.Clear f e = absurd (never e)
-frame-by c now (rulings.Barred n) f e = refl
+frame-by c now (Ok _) f e = absurd (never e)
+frame-by c now (Err n) f e = refl
 
 pub refusal-keeps-frame : (c : Unit) (call : Handed ℕ) → is_refusal (served_of c call).answer ≡ true → frame_left c call ≡ frame_in call
 unfolding served_of asked_of requests
@@ -55,8 +54,8 @@ refusal-keeps-frame c show e = refl
 -- ---- a list of calls
 played-by : (c : Unit) (l : List Call) (a : Asked) → played (stepped_by c a).unit l ≡ played c (with_asked a l)
 unfolding played
-played-by c l (Barred r) = refl
-played-by c l (Asks call) = refl
+played-by c l (Err r) = refl
+played-by c l (Ok call) = refl
 
 pub served-is : (c : Unit) (l : List (Handed ℕ)) → served_all c l ≡ played c (calls_in l)
 unfolding served_all served_of calls_in played
@@ -65,8 +64,8 @@ served-is c (call ∷ l) = served-is (stepped_by c (asked_of call)).unit l ∙ p
 
 -- the same list the other way round
 asked-onto : (l before : List Call) (a : Asked) → reverse_aux l (with_asked a before) ≡ reverse_aux (with_asked a l) before
-asked-onto l before (Barred r) = refl
-asked-onto l before (Asks call) = refl
+asked-onto l before (Err r) = refl
+asked-onto l before (Ok call) = refl
 
 calls-onto : (l before : List (Handed ℕ)) → calls_in (reverse_aux l before) ≡ reverse_aux (calls_in l) (calls_in before)
 unfolding calls_in

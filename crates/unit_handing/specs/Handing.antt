@@ -1,27 +1,28 @@
 -- Calls as they are handed over: a message by its octets, a request by its frame, a table by how many records it has. What is barred by that alone
 -- never reaches the unit, and is a call all the same.
-use Rattle.std.specs.Prelude.{ℕ, Bool, not, List, [], ◌∷◌, eqb, ℤ, length}
+use Rattle.std.specs.Prelude.{ℕ, Bool, not, List, [], ◌∷◌, eqb, ℤ, length, Ok, Err, Result}
 use Rattle.numbers.specs.declared.stamp.Stamp.{Stamp}
 use Rattle.numbers.specs.declared.refusal.Refusal.TheVariants.{Settings}
-use Rattle.numbers.specs.declared.ruling.Ruling.{Ruling}
-use Rattle.numbers.specs.declared.ruling.Ruling.TheVariants as rulings
+use Rattle.numbers.specs.Grounds.{Ruling}
+use Rattle.wire_layout.specs.Reading.{Read}
 use Rattle.numbers.specs.Grounds.{first_of}
 use Rattle.numbers.specs.Orders.{none_due, due_with, of_handing, of_time}
 use Rattle.wire_layout.specs.declared.message.Body.{Body}
 use Rattle.wire_layout.specs.declared.message.Message.{Message}
-use Rattle.wire_layout.specs.declared.message.Read.{Read}
-use Rattle.wire_layout.specs.declared.message.Read.TheVariants as reads
 use Rattle.wire_layout.specs.Kinds.{kind_of}
 use Rattle.wire_layout.specs.Reading.{read_of}
 use Rattle.unit_core.specs.declared.calls.Call.{Call}
 use Rattle.unit_core.specs.declared.calls.Call.TheVariants.{Receive, Request, Sent, Time, Reset, Tick, Line, Show}
 use Rattle.unit_core.specs.declared.calls.Answer.TheVariants.{Refused}
 use Rattle.unit_measuring.specs.Frame.{frame_after}
-use Rattle.unit_handing.specs.declared.Asked.{Asked}
-use Rattle.unit_handing.specs.declared.Asked.TheVariants.{Barred, Asks}
 use Rattle.unit.specs.declared.Unit.{Unit}
 use Rattle.unit.specs.declared.Stepped.{Stepped}
 use Rattle.unit.specs.Calls.{step_of}
+use Rattle.numbers.specs.declared.refusal.Refusal.{Refusal}
+
+-- what is handed over: a call of the unit, or what bars it before
+abbrev pub Asked : Type 0
+Asked = Result Call Refusal
 
 -- a call as it is handed over, T being what is known of the table that it is lent: here how many records it has
 pub data Handed (T : Type 0) : Type 0 where
@@ -36,8 +37,8 @@ pub data Handed (T : Type 0) : Type 0 where
 
 -- ---- what the unit is asked, or what bars it
 abbrev pub unless_barred : Ruling → Call → Asked
-unless_barred rulings.Clear call = Asks call
-unless_barred (rulings.Barred r) call = Barred r
+unless_barred (Ok _) call = Ok call
+unless_barred (Err r) call = Err r
 
 -- a Delay_Req, by its number
 abbrev pub is_delay_req : Body → Bool
@@ -52,26 +53,26 @@ message_asked lent m now arrival = unless_barred (first_of (of_handing (is_delay
 
 -- what cannot be read is barred by reading's own refusal
 abbrev pub read_asked : ℕ → Read → ℕ → Stamp → Asked
-read_asked lent (reads.Got m part) now arrival = message_asked lent m now arrival
-read_asked lent (reads.Refused r) now arrival = Barred r
+read_asked lent (Ok (m, part)) now arrival = message_asked lent m now arrival
+read_asked lent (Err r) now arrival = Err r
 
 unfoldable pub time_asked : ℕ → ℕ → Asked
 time_asked lent now = unless_barred (first_of (of_time (due_with Settings (is_stray lent) none_due))) (Time now)
 
 unfoldable pub asked_of : Handed ℕ → Asked
 asked_of (receive lent octets now arrival) = read_asked lent (read_of octets) now arrival
-asked_of (request frame now) = Asks (Request now (length frame))
-asked_of (sent now sequence t3) = Asks (Sent now sequence t3)
+asked_of (request frame now) = Ok (Request now (length frame))
+asked_of (sent now sequence t3) = Ok (Sent now sequence t3)
 asked_of (time lent now) = time_asked lent now
-asked_of reset = Asks Reset
-asked_of (tick reference clock) = Asks (Tick reference clock)
-asked_of line = Asks Line
-asked_of show = Asks Show
+asked_of reset = Ok Reset
+asked_of (tick reference clock) = Ok (Tick reference clock)
+asked_of line = Ok Line
+asked_of show = Ok Show
 
 -- ---- what is answered, and the unit after it
 abbrev pub stepped_by : Unit → Asked → Stepped
-stepped_by c (Barred r) = record { answer = Refused r; unit = c }
-stepped_by c (Asks call) = step_of c call
+stepped_by c (Err r) = record { answer = Refused r; unit = c }
+stepped_by c (Ok call) = step_of c call
 
 unfoldable pub served_of : Unit → Handed ℕ → Stepped
 served_of c call = stepped_by c (asked_of call)
@@ -103,8 +104,8 @@ served_all c [] = c
 served_all c (call ∷ l) = served_all (served_of c call).unit l
 
 abbrev pub with_asked : Asked → List Call → List Call
-with_asked (Barred r) l = l
-with_asked (Asks call) l = call ∷ l
+with_asked (Err r) l = l
+with_asked (Ok call) l = call ∷ l
 
 unfoldable pub calls_in : List (Handed ℕ) → List Call
 calls_in [] = []

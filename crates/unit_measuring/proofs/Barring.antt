@@ -1,12 +1,12 @@
 -- The refusals of a call of the exchange in two parts: those that the unit asks, and those that the exchange asks itself.
+use Rattle.std.specs.Prelude.{Ok, Err}
 use mathlib.Core.Path.{◌≡◌, refl, sym, ap, ◌∙◌}
 use mathlib.Core.List.{List, []}
 use mathlib.Core.Bool.{Bool, true, false, not, cond}
 use Prim.Native.Nat.{ℕ}
 use lib.Dec.{ltb}
 use Rattle.numbers.specs.declared.stamp.Stamp.{Stamp}
-use Rattle.numbers.specs.declared.ruling.Ruling.{Ruling}
-use Rattle.numbers.specs.declared.ruling.Ruling.TheVariants.{Clear, Barred}
+use Rattle.numbers.specs.Grounds.{Ruling}
 use Rattle.numbers.specs.declared.refusal.Refusal.TheVariants.{Kind, Field, Now, Faulty, Domain, NotMaster, Correction, Unmatched, Room}
 use Rattle.numbers.specs.Grounds.{Ground, gives, first_of}
 use Rattle.numbers.specs.Orders.{Due, none_due, due_with, of_exchange}
@@ -15,9 +15,8 @@ use Rattle.wire_layout.specs.declared.message.Header.{Header}
 use Rattle.wire_layout.specs.declared.message.Body.{Body}
 use Rattle.wire_layout.specs.declared.message.Body.TheVariants.{Sync, DelayReq, FollowUp, DelayResp, Announce}
 use Rattle.rules_exchange.specs.declared.Exchange.{Exchange}
-use Rattle.rules_exchange.specs.declared.Answered.{Answered}
 use Rattle.rules_exchange.specs.Table.{Event, sync, follow_up, delay_resp}
-use Rattle.rules_exchange.specs.Events.{correction_in, unmatched_of, exchange_due, grounds_of, tells_of, unless_barred, told}
+use Rattle.rules_exchange.specs.Events.{Answered, correction_in, unmatched_of, exchange_due, grounds_of, tells_of, unless_barred, told}
 use Rattle.rules_settings.specs.declared.Settings.{Settings}
 use Rattle.unit_core.specs.Effects.{Stays, Progress, unless, with_now}
 use Rattle.unit_measuring.specs.Measuring.{exchanges}
@@ -41,7 +40,7 @@ two-parts false false false false true c u r = refl
 two-parts false false false false false c u r = refl
 
 -- and the first part again in two: those of any call, and DOMAIN and NOT_MASTER
-behind : (f n a d m : Bool) → first_of (eight f n a d m false false false) ≡ or_else (first_of (eight f n a false false false false false)) (cond d (Barred Domain) (cond m (Barred NotMaster) Clear))
+behind : (f n a d m : Bool) → first_of (eight f n a d m false false false) ≡ or_else (first_of (eight f n a false false false false false)) (cond d (Err Domain) (cond m (Err NotMaster) (Ok tt)))
 unfolding first_of
 behind true n a d m = refl
 behind false true a d m = refl
@@ -49,22 +48,22 @@ behind false false true d m = refl
 behind false false false d m = refl
 
 pub master-bars : (s : Settings) (k : Stays) (now : ℕ) (h : Header) (field : Bool) (v : Ruling) → v ≡ first_of (of_exchange (call_due k now field))
-    → first_of (of_exchange (message_due s k now h field)) ≡ or_else v (cond (from_elsewhere s h) (Barred Domain) (cond (from_another k h) (Barred NotMaster) Clear))
+    → first_of (of_exchange (message_due s k now h field)) ≡ or_else v (cond (from_elsewhere s h) (Err Domain) (cond (from_another k h) (Err NotMaster) (Ok tt)))
 master-bars s k now h field v e =
     behind field (ltb now k.now) k.faulty (from_elsewhere s h) (from_another k h)
-    ∙ ap (λ (w : Ruling). or_else w (cond (from_elsewhere s h) (Barred Domain) (cond (from_another k h) (Barred NotMaster) Clear))) (sym e)
+    ∙ ap (λ (w : Ruling). or_else w (cond (from_elsewhere s h) (Err Domain) (cond (from_another k h) (Err NotMaster) (Ok tt)))) (sym e)
 
 pub own-bars : (k : Stays) (now : ℕ) (field : Bool) (v : Ruling) → v ≡ first_of (of_exchange (call_due k now field))
-    → first_of (of_exchange (own_due k now field)) ≡ or_else v (cond (not k.chosen.some) (Barred NotMaster) Clear)
+    → first_of (of_exchange (own_due k now field)) ≡ or_else v (cond (not k.chosen.some) (Err NotMaster) (Ok tt))
 own-bars k now field v e =
     behind field (ltb now k.now) k.faulty false (not k.chosen.some)
-    ∙ ap (λ (w : Ruling). or_else w (cond (not k.chosen.some) (Barred NotMaster) Clear)) (sym e)
+    ∙ ap (λ (w : Ruling). or_else w (cond (not k.chosen.some) (Err NotMaster) (Ok tt))) (sym e)
 
 module _ (s : Settings) (k : Stays) (r : Progress) (x : Exchange) (e : Event) where
   by_parts : (v w : Ruling) (t : Answered) → unless (or_else v w) (exchanges s k r t) ≡ unless v (exchanges s k r (unless_barred x w t))
-  by_parts Clear Clear t = refl
-  by_parts Clear (Barred n) t = refl
-  by_parts (Barred n) w t = refl
+  by_parts (Ok _) (Ok _) t = refl
+  by_parts (Ok _) (Err n) t = refl
+  by_parts (Err n) w t = refl
 
   -- the whole list, and then what follows, is the first part, and then the exchange's own answer
   pub unless-told : (due : Due) → due Correction ≡ false → due Unmatched ≡ false → due Room ≡ false

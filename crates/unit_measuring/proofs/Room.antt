@@ -1,4 +1,5 @@
 -- ROOM: 14 octets of Ethernet header and 44 of a Delay_Req.
+use Rattle.std.specs.Prelude.{Ok, Err}
 use mathlib.Core.Path.{◌≡◌, sym, ap, ◌∙◌}
 use mathlib.Core.Bool.{Bool, true, false, not, cond, ◌||◌}
 use Prim.Native.Nat.{ℕ, ◌-◌, ◌≤◌, ◌<◌}
@@ -7,8 +8,7 @@ use native.Mathlib.Omega.{arith}
 use borrow.Author.Tests.{lt-ltb, le-ltb}
 use lib.Dec.{ltb}
 use Rattle.numbers.specs.declared.refusal.Refusal.TheVariants.{Room}
-use Rattle.numbers.specs.declared.ruling.Ruling.{Ruling}
-use Rattle.numbers.specs.declared.ruling.Ruling.TheVariants.{Clear, Barred}
+use Rattle.numbers.specs.Grounds.{Ruling}
 use Rattle.numbers.specs.Grounds.{first_of}
 use Rattle.numbers.specs.Orders.{due_with, of_exchange}
 use Rattle.numbers.proofs.Grounds.{or_else}
@@ -28,6 +28,6 @@ pub long-enough : (room : ℕ) → 58 ≤ room → narrow room ≡ false
 long-enough room h = rw (le-ltb room 14 (omega arith), le-ltb (room - 14) 44 (omega arith))
 
 -- what bars a request into a frame: the unit's refusals, and then ROOM
-pub room-bars : (k : Stays) (now : ℕ) (r : Bool) (v : Ruling) → v ≡ first_of (of_exchange (own_due k now false)) → first_of (of_exchange (due_with Room r (own_due k now false))) ≡ or_else v (cond r (Barred Room) Clear)
+pub room-bars : (k : Stays) (now : ℕ) (r : Bool) (v : Ruling) → v ≡ first_of (of_exchange (own_due k now false)) → first_of (of_exchange (due_with Room r (own_due k now false))) ≡ or_else v (cond r (Err Room) (Ok tt))
 unfolding first_of
-room-bars k now r v e = two-parts false (ltb now k.now) k.faulty false (not k.chosen.some) false false r ∙ ap (λ (w : Ruling). or_else w (cond r (Barred Room) Clear)) (sym e)
+room-bars k now r v e = two-parts false (ltb now k.now) k.faulty false (not k.chosen.some) false false r ∙ ap (λ (w : Ruling). or_else w (cond r (Err Room) (Ok tt))) (sym e)

@@ -1,12 +1,12 @@
 -- A message that was read has a sound stamp: FIELD is then due of a Sync's t2 alone, and of no other message.
+use Rattle.std.specs.Prelude.{Ok, Err}
 use mathlib.Core.Path.{◌≡◌, refl, sym, ap, ◌∙◌}
 use mathlib.Core.Bool.{Bool, true, false, not}
 use mathlib.Core.List.{List}
 use Prim.Native.Nat.{ℕ}
 use native.Mathlib.Omega.{arith}
 use Rattle.numbers.specs.declared.stamp.Stamp.{Stamp}
-use Rattle.numbers.specs.declared.ruling.Ruling.{Ruling}
-use Rattle.numbers.specs.declared.ruling.Ruling.TheVariants.{Clear, Barred}
+use Rattle.numbers.specs.Grounds.{Ruling}
 use Rattle.numbers.specs.Grounds.{first_of, answer_by}
 use Rattle.numbers.specs.Stamps.{sound_of}
 use Rattle.numbers.proofs.Grounds.{clear-cons}
@@ -14,10 +14,9 @@ use Rattle.wire_layout.specs.declared.message.Body.{Body}
 use Rattle.wire_layout.specs.declared.message.Body.TheVariants.{Sync, DelayReq, FollowUp, DelayResp, Announce}
 use Rattle.wire_layout.specs.declared.message.Message.{Message}
 use Rattle.wire_layout.specs.declared.message.Part.{Part}
-use Rattle.wire_layout.specs.declared.message.Read.TheVariants.{Got, Refused}
 use Rattle.wire_layout.specs.Kinds.{stamp_in}
 use Rattle.wire_layout.specs.Positions.{message_of}
-use Rattle.wire_layout.specs.Reading.{suffix_at, reading_grounds, read_of}
+use Rattle.wire_layout.specs.Reading.{suffix_at, reading_grounds, read_of, Read}
 use Rattle.rules_exchange.specs.Events.{field_of}
 use Rattle.unit_measuring.specs.Barring.{field_in}
 
@@ -26,14 +25,15 @@ no-not true e = refl
 no-not false e = sym e
 
 module _ (s : List ℕ) (m : Message) (p : Part) where
-  by-ruling : (v : Ruling) → first_of (reading_grounds s) ≡ v → answer_by Refused (Got (message_of s) (suffix_at s)) v ≡ Got m p → sound_of (stamp_in m.body) ≡ true
-  by-ruling Clear q e =
-      let same : message_of s ≡ m = cc in
+  by-ruling : (v : Ruling) → first_of (reading_grounds s) ≡ v → answer_by {A = Read} Err (Ok (message_of s, suffix_at s)) v ≡ Ok (m, p) → sound_of (stamp_in m.body) ≡ true
+  by-ruling (Ok _) q e =
+      let both : ◌≡◌ {A = Message × Part} (message_of s, suffix_at s) (m, p) = cc in
+      let same : message_of s ≡ m = ap (λ (x : Message × Part). x.0) both in
       let sized = (clear-cons _ _ (clear-cons _ _ (clear-cons _ _ (clear-cons _ _ (clear-cons _ _ q).1).1).1).1).1 in
       sym (ap (λ (x : Message). sound_of (stamp_in x.body)) same) ∙ no-not _ (clear-cons _ _ sized).0
-  by-ruling (Barred r) q e = let z : ◌≡◌ {A = ℕ} 0 1 = cc in absurd (omega arith)
+  by-ruling (Err r) q e = let z : ◌≡◌ {A = ℕ} 0 1 = cc in absurd (omega arith)
 
-  pub read-stamp-sound : read_of s ≡ Got m p → sound_of (stamp_in m.body) ≡ true
+  pub read-stamp-sound : read_of s ≡ Ok (m, p) → sound_of (stamp_in m.body) ≡ true
   unfolding read_of
   read-stamp-sound e = by-ruling (first_of (reading_grounds s)) refl e
 
@@ -53,5 +53,5 @@ beside t2 (DelayResp t4 requester) h = rw h
 beside t2 (Announce t offer) h = refl
 
 -- whoever hands over octets is never refused for the stamp that they hold
-pub read-field : (s : List ℕ) (m : Message) (p : Part) → read_of s ≡ Got m p → (t2 : Stamp) → field_in t2 m.body ≡ field_beside t2 m.body
+pub read-field : (s : List ℕ) (m : Message) (p : Part) → read_of s ≡ Ok (m, p) → (t2 : Stamp) → field_in t2 m.body ≡ field_beside t2 m.body
 read-field s m p e t2 = beside t2 m.body (read-stamp-sound s m p e)

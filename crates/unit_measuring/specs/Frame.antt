@@ -1,10 +1,9 @@
 -- What a request leaves in the lent frame.
-use Rattle.std.specs.Prelude.{ℕ, ◌-◌, List, [], ◌++◌, length, take, drop}
+use Rattle.std.specs.Prelude.{ℕ, ◌-◌, List, [], ◌++◌, length, take, drop, Ok, Err}
 use Rattle.wire_layout.specs.declared.message.Message.{Message}
 use Rattle.wire_layout.specs.Writing.{write_of, left_by}
 use Rattle.wire_frames.specs.Frames.{request_of}
-use Rattle.numbers.specs.declared.ruling.Ruling.{Ruling}
-use Rattle.numbers.specs.declared.ruling.Ruling.TheVariants.{Clear, Barred}
+use Rattle.numbers.specs.Grounds.{Ruling}
 use Rattle.numbers.specs.Grounds.{first_of}
 use Rattle.unit_core.specs.declared.Core.{Core}
 use Rattle.unit_core.specs.Effects.{stays_of}
@@ -16,8 +15,8 @@ framed m f = take 14 f ++ left_by (write_of m [] (length f - 14)) m [] (drop 14 
 
 -- a refusal leaves the frame as it was
 abbrev pub frame_by : Ruling → Message → List ℕ → List ℕ
-frame_by Clear m f = framed m f
-frame_by (Barred r) m f = f
+frame_by (Ok _) m f = framed m f
+frame_by (Err r) m f = f
 
 -- the unit's own Delay_Req, with the sequenceId of this request
 abbrev pub frame_after : Core → ℕ → List ℕ → List ℕ

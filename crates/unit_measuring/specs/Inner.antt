@@ -1,5 +1,5 @@
 -- What only inner contracts cite: nobody needs to believe it.
-use Rattle.std.specs.Prelude.{ℕ, true, List, [], ◌∷◌}
+use Rattle.std.specs.Prelude.{ℕ, true, List, [], ◌∷◌, Err}
 use Rattle.numbers.specs.declared.refusal.Refusal.TheVariants.{Kind}
 use Rattle.numbers.specs.declared.stamp.Stamp.{Stamp}
 use Rattle.numbers.specs.Grounds.{Ground, gives}
@@ -9,10 +9,8 @@ use Rattle.wire_layout.specs.declared.message.Header.{Header}
 use Rattle.wire_layout.specs.declared.message.Body.{Body}
 use Rattle.wire_layout.specs.declared.message.Body.TheVariants.{Sync, DelayReq, FollowUp, DelayResp, Announce}
 use Rattle.rules_exchange.specs.declared.Exchange.{Exchange}
-use Rattle.rules_exchange.specs.declared.Answer.TheVariants.{Refused}
-use Rattle.rules_exchange.specs.declared.Answered.{Answered}
 use Rattle.rules_exchange.specs.Table.{sync, follow_up, delay_resp}
-use Rattle.rules_exchange.specs.Events.{told}
+use Rattle.rules_exchange.specs.Events.{Answered, told}
 use Rattle.rules_settings.specs.declared.Settings.{Settings}
 use Rattle.unit_core.specs.Effects.{Stays}
 use Rattle.unit_measuring.specs.Hearing.{two_step_in}
@@ -29,7 +27,7 @@ message_grounds s k now t2 h (Announce t offer) = gives Kind true ∷ []
 -- what the exchange answers to a message: the other two kinds are barred above
 abbrev pub handed : Exchange → Port → Stamp → Header → Body → Answered
 handed x own t2 h (Sync t1) = told x (sync (two_step_in h) h.sequence h.correction t1 t2)
-handed x own t2 h (DelayReq t) = record { answer = Refused Kind; exchange = x }
+handed x own t2 h (DelayReq t) = record { answer = Err Kind; exchange = x }
 handed x own t2 h (FollowUp t1) = told x (follow_up h.sequence h.correction t1)
 handed x own t2 h (DelayResp t4 requester) = told x (delay_resp h.sequence h.correction t4 requester own)
-handed x own t2 h (Announce t offer) = record { answer = Refused Kind; exchange = x }
+handed x own t2 h (Announce t offer) = record { answer = Err Kind; exchange = x }

@@ -1,13 +1,11 @@
 -- What the exchange's answer makes of the unit.
-use Rattle.std.specs.Prelude.{ℕ, true, cond, pos}
+use Rattle.std.specs.Prelude.{ℕ, true, cond, pos, Ok, Err}
 use Rattle.numbers.specs.declared.units.Ppb.{Ppb}
 use Rattle.rules_exchange.specs.declared.Exchange.{Exchange}
 use Rattle.rules_exchange.specs.declared.Accepted.{Accepted}
 use Rattle.rules_exchange.specs.declared.said.Said.{Said}
 use Rattle.rules_exchange.specs.Said.{wipes_of, faults_of, steers_of, found_in}
-use Rattle.rules_exchange.specs.declared.Answer.{Answer as Told}
-use Rattle.rules_exchange.specs.declared.Answer.TheVariants as tells
-use Rattle.rules_exchange.specs.declared.Answered.{Answered}
+use Rattle.rules_exchange.specs.Events.{Answer as Told, Answered}
 use Rattle.rules_servo.specs.declared.Servo.{Servo}
 use Rattle.rules_servo.specs.Steps.{held_offset, limit_of, stepped_servo}
 use Rattle.rules_settings.specs.declared.Settings.{Settings}
@@ -41,8 +39,8 @@ by_said s k r x said =
     (goes (Said-of said r.servo.output) k (with_exchange r x))))
 
 abbrev pub by_answer : Settings → Stays → Progress → Told → Exchange → Effect
-by_answer s k r (tells.Refused n) x = keeps (Refused n)
-by_answer s k r (tells.Says said) x = by_said s k r x said
+by_answer s k r (Err n) x = keeps (Refused n)
+by_answer s k r (Ok said) x = by_said s k r x said
 
 abbrev pub exchanges : Settings → Stays → Progress → Answered → Effect
 exchanges s k r a = by_answer s k r a.answer a.exchange

@@ -6,42 +6,33 @@ ghost use Rattle.numbers.specs.Orders.{of_exchange};
 ghost use Rattle.unit_measuring.specs.Barring.{own_due};
 ghost use Rattle.unit_measuring.specs.Asking.{request_grounds, requests, sends};
 
-use crate::{barred, exchanged};
+use crate::{barred, exchanged, follow};
 use numbers::refusal::Refusal;
-use numbers::ruling::Ruling;
 use numbers::stamp::Stamp;
 use rules_exchange::refusals;
 use rules_servo::Servo;
 use unit_core::{Core, Moved};
 
 // 16 of the unit's own calls, behind those of any call.
-pub fn own_barred(core: Core, now: u64, field: bool) -> Ruling
+pub fn own_barred(core: Core, now: u64, field: bool) -> Result<(), Refusal>
     ensures { result ≡ first_of (of_exchange (own_due (stays_of core) now field)) }
 {
-    match barred(core, now, field) {
-        Ruling::Barred(number) => Ruling::Barred(number),
-        Ruling::Clear => {
-            if core.domain.chosen.some {
-                return Ruling::Clear;
-            }
-            Ruling::Barred(Refusal::NotMaster)
-        }
+    barred(core, now, field)?;
+    if core.domain.chosen.some {
+        return Ok(());
     }
+    Err(Refusal::NotMaster)
 }
 
 // 9, 18, 16, 7 of a request into a frame of `room` octets: 14 of Ethernet header, and 44.
-pub fn request_barred(core: Core, now: u64, room: usize) -> Ruling
+pub fn request_barred(core: Core, now: u64, room: usize) -> Result<(), Refusal>
     ensures { result ≡ first_of (request_grounds (stays_of core) now room) }
 {
-    match own_barred(core, now, false) {
-        Ruling::Barred(number) => Ruling::Barred(number),
-        Ruling::Clear => {
-            if room < 58 {
-                return Ruling::Barred(Refusal::Room);
-            }
-            Ruling::Clear
-        }
+    own_barred(core, now, false)?;
+    if room < 58 {
+        return Err(Refusal::Room);
     }
+    Ok(())
 }
 
 // A request into a frame of `room` octets. Its sequenceId is used up.
@@ -49,14 +40,12 @@ pub fn request(mut core: Core, servo: Servo, now: u64, room: usize) -> Moved
     ensures { result ≡ moved_by core servo (requests core.settings (stays_of core) (progress_of core servo) now room) }
 {
     match request_barred(core, now, room) {
-        Ruling::Barred(number) => core.refuse(servo, number),
-        Ruling::Clear => {
-            let mut domain = core.domain;
-            let held = domain.run.exchange;
-            let asked = held.request(domain.sequence);
-            domain.sequence = ((domain.sequence as u32 + 1) % 65_536) as u16;
-            core.domain = domain;
-            exchanged(core, servo, now, asked)
+        Err(refusal) => core.refuse(servo, refusal),
+        Ok(()) => {
+            let mut next = core.domain.run.exchange;
+            let said = next.request(core.domain.sequence);
+            core.domain.sequence = core.domain.sequence.wrapping_add(1);
+            follow(core, servo, now, next, said)
         }
     }
 }
@@ -66,10 +55,11 @@ pub fn sent(core: Core, servo: Servo, now: u64, sequence: u16, t3: Stamp) -> Mov
     ensures { result ≡ moved_by core servo (sends core.settings (stays_of core) (progress_of core servo) now sequence t3) }
 {
     match own_barred(core, now, refusals::field(t3)) {
-        Ruling::Barred(number) => core.refuse(servo, number),
-        Ruling::Clear => {
-            let held = core.domain.run.exchange;
-            exchanged(core, servo, now, held.sent(sequence, t3))
+        Err(refusal) => core.refuse(servo, refusal),
+        Ok(()) => {
+            let mut next = core.domain.run.exchange;
+            let answer = next.sent(sequence, t3);
+            exchanged(core, servo, now, next, answer)
         }
     }
 }

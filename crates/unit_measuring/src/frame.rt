@@ -5,7 +5,7 @@ ghost use Rattle.unit_measuring.specs.Asking.{requests};
 ghost use Rattle.unit_measuring.specs.Frame.{frame_after};
 
 use crate::asking;
-use numbers::ruling::Ruling;
+use numbers::refusal::Refusal;
 use rules_servo::Servo;
 use unit_core::{Core, Moved};
 use wire_frames::{request, write_frame};
@@ -15,14 +15,13 @@ pub fn request_into(core: Core, servo: Servo, time: u64, frame: &mut [u8]) -> Mo
     ensures frame_after { frame.new ≡ frame_after core time frame.old }
 {
     let room = frame.len();
-    match asking::request_barred(core, time, room) {
-        Ruling::Barred(_) => asking::request(core, servo, time, room),
-        Ruling::Clear => {
-            let own = core.settings.own;
-            let m = request(core.settings.domain, own, core.domain.sequence);
-            let none = [0u8; 1];
-            write_frame(m, &none[..0], frame);
-            asking::request(core, servo, time, room)
-        }
+    if asking::request_barred(core, time, room).is_ok() {
+        let m = request(
+            core.settings.domain,
+            core.settings.own,
+            core.domain.sequence,
+        );
+        let _ = write_frame(m, &[], frame);
     }
+    asking::request(core, servo, time, room)
 }

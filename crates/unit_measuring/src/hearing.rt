@@ -1,18 +1,17 @@
 // A received message other than an Announce: what bars it, and what the exchange is told.
-ghost use Rattle.std.specs.Prelude.{◌≡◌, ◌||◌};
+ghost use Rattle.std.specs.Prelude.{◌≡◌};
 ghost use Rattle.numbers.specs.Grounds.{first_of};
 ghost use Rattle.unit_core.specs.Effects.{stays_of, progress_of, moved_by};
 ghost use Rattle.numbers.specs.Orders.{of_exchange};
-ghost use Rattle.rules_exchange.specs.Events.{field_of};
 ghost use Rattle.unit_measuring.specs.Barring.{message_due};
 ghost use Rattle.unit_measuring.specs.Hearing.{two_step_in, hears};
 ghost use Rattle.unit_measuring.specs.Inner.{message_grounds, handed};
 
 use crate::{barred, exchanged};
 use numbers::refusal::Refusal;
-use numbers::ruling::Ruling;
 use numbers::stamp::Stamp;
-use rules_exchange::{Answered, Exchange, refusals};
+use rules_exchange::said::Said;
+use rules_exchange::{Exchange, refusals};
 use rules_servo::Servo;
 use unit_core::{Core, Moved};
 use wire_layout::message::{Body, Header, Message, Port};
@@ -25,12 +24,12 @@ pub fn two_step(header: Header) -> bool
 }
 
 // A message is handed to the exchange, which knows three kinds.
-fn hand(held: Exchange, own: Port, t2: Stamp, m: Message) -> Answered
-    ensures { result ≡ handed held own t2 m.header m.body }
+fn hand(held: &mut Exchange, own: Port, t2: Stamp, m: Message) -> Result<Said, Refusal>
+    ensures answer { result ≡ (handed held.old own t2 m.header m.body).answer }
+    ensures exchange { held.new ≡ (handed held.old own t2 m.header m.body).exchange }
 {
     let header = m.header;
-    let body = m.body;
-    match body {
+    match m.body {
         Body::Sync(t1) => {
             held.sync(two_step(header), header.sequence, header.correction, t1, t2)
         }
@@ -38,54 +37,44 @@ fn hand(held: Exchange, own: Port, t2: Stamp, m: Message) -> Answered
         Body::DelayResp(t4, requester) => {
             held.delay_resp(header.sequence, header.correction, t4, requester, own)
         }
-        _ => Answered {
-            answer: rules_exchange::Answer::Refused(Refusal::Kind),
-            exchange: held,
-        },
+        Body::DelayReq(_) | Body::Announce(_, _) => Err(Refusal::Kind),
     }
 }
 
 // 10 and 16 of a message, behind those of any call.
-fn from_master(core: Core, now: u64, field: bool, header: Header) -> Ruling
+fn from_master(core: Core, now: u64, field: bool, header: Header) -> Result<(), Refusal>
     ensures { result ≡ first_of (of_exchange (message_due core.settings (stays_of core) now header field)) }
 {
-    match barred(core, now, field) {
-        Ruling::Barred(number) => Ruling::Barred(number),
-        Ruling::Clear => {
-            if header.domain != core.settings.domain {
-                return Ruling::Barred(Refusal::Domain);
-            }
-            let chosen = core.domain.chosen;
-            if chosen.is_master(header.source) {
-                return Ruling::Clear;
-            }
-            Ruling::Barred(Refusal::NotMaster)
-        }
+    barred(core, now, field)?;
+    if header.domain != core.settings.domain {
+        return Err(Refusal::Domain);
     }
-}
-
-// FIELD of a Sync's two stamps.
-fn either_field(t1: Stamp, t2: Stamp) -> bool
-    ensures { result ≡ (field_of t1 || field_of t2) }
-{
-    if refusals::field(t1) {
-        true
-    } else {
-        refusals::field(t2)
+    if core.domain.chosen.is_master(header.source) {
+        return Ok(());
     }
+    Err(Refusal::NotMaster)
 }
 
 // 3 of a kind that is not heard, before all else; then those that come before the exchange's own. FIELD is asked of the message's own stamp too: whoever
 // hands over a struct has not had it read.
 #[tactic(auto, unfolding(numbers::specs::Grounds::first_of))]
-pub fn message_barred(core: Core, now: u64, t2: Stamp, header: Header, body: Body) -> Ruling
+pub fn message_barred(
+    core: Core,
+    now: u64,
+    t2: Stamp,
+    header: Header,
+    body: Body,
+) -> Result<(), Refusal>
     ensures { result ≡ first_of (message_grounds core.settings (stays_of core) now t2 header body) }
 {
     match body {
-        Body::Sync(t1) => from_master(core, now, either_field(t1, t2), header),
+        Body::Sync(t1) => {
+            let field = refusals::field(t1) || refusals::field(t2);
+            from_master(core, now, field, header)
+        }
         Body::FollowUp(t1) => from_master(core, now, refusals::field(t1), header),
         Body::DelayResp(t4, _) => from_master(core, now, refusals::field(t4), header),
-        _ => Ruling::Barred(Refusal::Kind),
+        _ => Err(Refusal::Kind),
     }
 }
 
@@ -93,13 +82,12 @@ pub fn message_barred(core: Core, now: u64, t2: Stamp, header: Header, body: Bod
 pub fn heard(core: Core, servo: Servo, now: u64, t2: Stamp, m: Message) -> Moved
     ensures { result ≡ moved_by core servo (hears core.settings (stays_of core) (progress_of core servo) now t2 m.header m.body) }
 {
-    let header = m.header;
-    let body = m.body;
-    match message_barred(core, now, t2, header, body) {
-        Ruling::Barred(number) => core.refuse(servo, number),
-        Ruling::Clear => {
-            let held = core.domain.run.exchange;
-            exchanged(core, servo, now, hand(held, core.settings.own, t2, m))
+    match message_barred(core, now, t2, m.header, m.body) {
+        Err(refusal) => core.refuse(servo, refusal),
+        Ok(()) => {
+            let mut next = core.domain.run.exchange;
+            let answer = hand(&mut next, core.settings.own, t2, m);
+            exchanged(core, servo, now, next, answer)
         }
     }
 }

@@ -1,4 +1,5 @@
 -- What a pulse does: by the watch's answer, as the code goes, and by the rules' outcome, as the story goes.
+use Rattle.std.specs.Prelude.{Ok, Err}
 use mathlib.Core.Path.{◌≡◌, refl}
 use mathlib.Core.Bool.{Bool, true, false, cond}
 use lib.IntN.{ℤ}
@@ -7,11 +8,9 @@ use Rattle.rules_servo.specs.declared.Servo.{Servo}
 use Rattle.rules_watch.specs.declared.settings.WatchSettings.{WatchSettings}
 use Rattle.rules_watch.specs.declared.window.Sample.{Sample}
 use Rattle.rules_watch.specs.declared.Watch.{Watch}
-use Rattle.rules_watch.specs.declared.Answer.TheVariants.{Says}
 use Rattle.rules_watch.specs.declared.Pulse.{Pulse}
-use Rattle.rules_watch.specs.declared.judging.Outcome.{Outcome}
-use Rattle.rules_watch.specs.declared.judging.Outcome.TheVariants.{Refuse, Wipe, Take}
-use Rattle.rules_watch.specs.Rules.{Since, pulse_of, wipes_of, outcome}
+use Rattle.rules_watch.specs.declared.judging.Judged.TheVariants.{Wipe, Take}
+use Rattle.rules_watch.specs.Rules.{Outcome, Since, pulse_of, wipes_of, outcome}
 use Rattle.rules_watch.specs.Watch.{taken_by}
 use Rattle.rules_watch.proofs.Story.{Proper, proper}
 use Rattle.unit_core.specs.declared.Core.{Core}
@@ -27,11 +26,11 @@ by_test P true p q = p
 by_test P false p q = q
 
 -- what holds of a refusal, of every pulse that wipes and of every sample taken holds of every outcome
-module _ (P : Outcome → Type 0) (no : (n : Refusal) → P (Refuse n)) (wipe : (a : Pulse) → wipes_of a ≡ true → P (Wipe a)) (yes : (origin : ℤ) (x : Sample) → P (Take origin x)) where
+module _ (P : Outcome → Type 0) (no : (n : Refusal) → P (Err n)) (wipe : (a : Pulse) → wipes_of a ≡ true → P (Ok (Wipe a))) (yes : (origin : ℤ) (x : Sample) → P (Ok (Take origin x))) where
   of-proper : (o : Outcome) → Proper o → P o
-  of-proper (Refuse n) k = no n
-  of-proper (Wipe a) k = wipe a k
-  of-proper (Take origin x) k = yes origin x
+  of-proper (Err n) k = no n
+  of-proper (Ok (Wipe a)) k = wipe a k
+  of-proper (Ok (Take origin x)) k = yes origin x
 
   pub every-outcome : (t : WatchSettings) (h : Since) (r c : ℤ) → P (outcome t h r c)
   every-outcome t h r c = of-proper (outcome t h r c) (proper t h r c)
@@ -50,6 +49,6 @@ module _ (u : Core) (v : Servo) (w : Watch) where
       (λ origin x. rw (mark x.valid))
       u.settings.watch h reference clock
     where
-      mark : (valid : Bool) → moved_by u v (pulses (stays_of u) (Says (pulse_of valid))) ≡ kept_core u v (Watched (pulse_of valid))
+      mark : (valid : Bool) → moved_by u v (pulses (stays_of u) (Ok (pulse_of valid))) ≡ kept_core u v (Watched (pulse_of valid))
       mark true = refl
       mark false = refl

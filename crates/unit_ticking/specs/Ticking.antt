@@ -1,12 +1,10 @@
 -- What the second pulse does, and the answer to `line`.
-use Rattle.std.specs.Prelude.{ℕ}
+use Rattle.std.specs.Prelude.{ℕ, Ok, Err}
 use Rattle.rules_servo.specs.declared.Servo.{Servo}
 use Rattle.rules_watch.specs.declared.settings.WatchSettings.{WatchSettings}
 use Rattle.rules_watch.specs.declared.Watch.{Watch}
-use Rattle.rules_watch.specs.declared.Drift.{Drift}
-use Rattle.rules_watch.specs.declared.Drift.TheVariants as drift
-use Rattle.rules_watch.specs.declared.judging.Outcome.{Outcome}
-use Rattle.rules_watch.specs.declared.judging.Outcome.TheVariants.{Refuse, Wipe, Take}
+use Rattle.rules_watch.specs.Rules.{Outcome, Drift}
+use Rattle.rules_watch.specs.declared.judging.Judged.TheVariants.{Wipe, Take}
 use Rattle.rules_watch.specs.Watch.{sample_taken}
 use Rattle.unit_core.specs.declared.Core.{Core}
 use Rattle.unit_core.specs.declared.calls.Answer.{Answer}
@@ -16,9 +14,9 @@ use Rattle.unit_ticking.specs.declared.Ticked.{Ticked}
 
 -- a pulse out of range is refused; one that wipes is not taken, and wipes exchange and servo too; any other is taken
 abbrev pub ticks : Stays → Outcome → Effect
-ticks k (Refuse n) = keeps (Refused n)
-ticks k (Wipe p) = wipes (Watched p) k
-ticks k (Take origin x) = takes origin x
+ticks k (Err n) = keeps (Refused n)
+ticks k (Ok (Wipe p)) = wipes (Watched p) k
+ticks k (Ok (Take origin x)) = takes origin x
 
 -- the watch with the sample, where one was taken
 abbrev pub sampled_by : WatchSettings → Watch → Effect → Watch
@@ -33,5 +31,5 @@ ticked_by u v w e = record { watch = sampled_by u.settings.watch w e; moved = mo
 
 -- the line comes with the wipe count
 abbrev pub line_by : Drift → ℕ → Answer
-line_by (drift.Refused n) count = Refused n
-line_by (drift.Line line) count = Line line count
+line_by (Err n) count = Refused n
+line_by (Ok line) count = Line line count

@@ -8,8 +8,9 @@ ghost use Rattle.unit_core.specs.Effects.{stays_of, moved_by};
 ghost use Rattle.unit_ticking.specs.Ticking.{ticks, line_by, ticked_by};
 ghost use Rattle.unit_ticking.specs.Inner.{pulses};
 
+use numbers::refusal::Refusal;
 use rules_servo::Servo;
-use rules_watch::{Drift, Watch};
+use rules_watch::{Pulse, Watch};
 use unit_core::calls::Answer;
 use unit_core::{Core, Moved};
 
@@ -21,12 +22,12 @@ pub struct Ticked {
 }
 
 // What the watch's answer makes of the unit.
-fn pulsed(core: Core, servo: Servo, answer: rules_watch::Answer) -> Moved
+fn pulsed(core: Core, servo: Servo, answer: Result<Pulse, Refusal>) -> Moved
     ensures { result ≡ moved_by core servo (pulses (stays_of core) answer) }
 {
     match answer {
-        rules_watch::Answer::Refused(number) => core.refuse(servo, number),
-        rules_watch::Answer::Says(pulse) => {
+        Err(refusal) => core.refuse(servo, refusal),
+        Ok(pulse) => {
             if pulse.wipes() {
                 core.wipe(core.now, Answer::Watch(pulse))
             } else {
@@ -37,17 +38,12 @@ fn pulsed(core: Core, servo: Servo, answer: rules_watch::Answer) -> Moved
 }
 
 // A second pulse.
-pub fn tick(core: Core, servo: Servo, watch: Watch, reference: i64, clock: i64) -> Ticked
+pub fn tick(core: Core, servo: Servo, mut watch: Watch, reference: i64, clock: i64) -> Ticked
     ensures { result ≡ ticked_by core servo watch (ticks (stays_of core) (outcome core.settings.watch (since_of watch) reference clock)) }
 {
-    let taken = watch.take(core.settings.watch, reference, clock);
-    let after = taken.watch;
-    let answer = taken.answer;
+    let answer = watch.take(core.settings.watch, reference, clock);
     let moved = pulsed(core, servo, answer);
-    Ticked {
-        watch: after,
-        moved,
-    }
+    Ticked { watch, moved }
 }
 
 // The drift line, once it is due, with the wipe count.
@@ -55,7 +51,7 @@ pub fn line(core: Core, watch: Watch) -> Answer
     ensures { result ≡ line_by (watch_line core.settings.watch watch) core.domain.wipes }
 {
     match watch.line(core.settings.watch) {
-        Drift::Refused(number) => Answer::Refused(number),
-        Drift::Line(line) => Answer::Line(line, core.domain.wipes),
+        Err(refusal) => Answer::Refused(refusal),
+        Ok(line) => Answer::Line(line, core.domain.wipes),
     }
 }

@@ -1,4 +1,5 @@
 -- What reading answers, by the tests that led there, in their order.
+use Rattle.std.specs.Prelude.{Ok, Err}
 use mathlib.Core.Path.{◌≡◌, refl, ◌∙◌}
 use mathlib.Core.Bool.{Bool, true, false, not, cond}
 use mathlib.Core.List.{List, [], ◌∷◌}
@@ -7,14 +8,14 @@ use lib.ListN.{length}
 use borrow.Author.Tests.{lt-ltb, le-ltb, eq-eqb, ne_eqb}
 use Rattle.numbers.specs.declared.refusal.Refusal.TheVariants.{Short, Version, Kind, Length, Field, Suffix}
 use Rattle.numbers.specs.declared.stamp.Stamp.{Stamp}
-use Rattle.numbers.specs.declared.ruling.Ruling.TheVariants.{Clear, Barred}
 use Rattle.numbers.specs.Grounds.{gives, first_of, answer_by}
 use Rattle.numbers.specs.Stamps.{sound_of}
-use Rattle.wire_layout.specs.declared.message.Read.TheVariants.{Got, Refused}
 use Rattle.wire_layout.specs.Kinds.{fixed_length_of, stamp_in}
 use Rattle.wire_layout.specs.Positions.{kind_in, version_in, length_in, body_of, message_of}
 use Rattle.wire_layout.specs.Suffix.{whole_of}
 use Rattle.wire_layout.specs.Reading.{read_of, suffix_at, suffix_in}
+use Rattle.wire_layout.specs.declared.message.Part.{Part}
+use Rattle.wire_layout.specs.declared.message.Message.{Message}
 
 -- the timestamp that is read
 abbrev pub stamp_of : List ℕ → Stamp
@@ -32,25 +33,25 @@ pub record Sized (s : List ℕ) : Type 0 where
   pub all : length_in s ≤ length s
 
 module _ (s : List ℕ) where
-  pub r-short : length s < 34 → read_of s ≡ Refused Short
+  pub r-short : length s < 34 → read_of s ≡ Err Short
   unfolding read_of first_of
   r-short h = simp (lt-ltb (length s) 34 h)
 
-  pub r-version : 34 ≤ length s → (version_in s ≡ 2 → ⊥) → read_of s ≡ Refused Version
+  pub r-version : 34 ≤ length s → (version_in s ≡ 2 → ⊥) → read_of s ≡ Err Version
   unfolding read_of first_of
   r-version a h = simp (le-ltb (length s) 34 a, ne_eqb (version_in s) 2 h)
 
-  pub r-kind : 34 ≤ length s → version_in s ≡ 2 → fixed_length_of (kind_in s) ≡ 0 → read_of s ≡ Refused Kind
+  pub r-kind : 34 ≤ length s → version_in s ≡ 2 → fixed_length_of (kind_in s) ≡ 0 → read_of s ≡ Err Kind
   unfolding read_of first_of
   r-kind a b h = simp (le-ltb (length s) 34 a, eq-eqb (version_in s) 2 b, eq-eqb (fixed_length_of (kind_in s)) 0 h)
 
   module _ (p : Head s) where
-    pub r-length : length_in s < fixed_length_of (kind_in s) → read_of s ≡ Refused Length
+    pub r-length : length_in s < fixed_length_of (kind_in s) → read_of s ≡ Err Length
     unfolding read_of first_of
     r-length h =
         simp (le-ltb (length s) 34 p.head, eq-eqb (version_in s) 2 p.version, ne_eqb (fixed_length_of (kind_in s)) 0 p.kind, lt-ltb (length_in s) (fixed_length_of (kind_in s)) h)
 
-    pub r-cut : fixed_length_of (kind_in s) ≤ length_in s → length s < length_in s → read_of s ≡ Refused Short
+    pub r-cut : fixed_length_of (kind_in s) ≤ length_in s → length s < length_in s → read_of s ≡ Err Short
     unfolding read_of first_of
     r-cut e h =
         simp (
@@ -63,7 +64,7 @@ module _ (s : List ℕ) where
 
   module _ (p : Sized s) where
     r-sized : read_of s
-        ≡ answer_by Refused (Got (message_of s) (suffix_at s))
+        ≡ answer_by Err (Ok (message_of s, suffix_at s))
         (first_of (gives Field (not (sound_of (stamp_of s))) ∷ gives Suffix (not (whole_of (suffix_in s))) ∷ []))
     unfolding read_of first_of
     r-sized =
@@ -75,14 +76,14 @@ module _ (s : List ℕ) where
           le-ltb (length s) (length_in s) p.all,
         )
 
-    pub r_field : sound_of (stamp_of s) ≡ false → read_of s ≡ Refused Field
+    pub r_field : sound_of (stamp_of s) ≡ false → read_of s ≡ Err Field
     unfolding first_of
     r_field f = r-sized ∙ simp f
 
-    pub r-whole : sound_of (stamp_of s) ≡ true → read_of s ≡ cond (whole_of (suffix_in s)) (Got (message_of s) (suffix_at s)) (Refused Suffix)
+    pub r-whole : sound_of (stamp_of s) ≡ true → read_of s ≡ cond (whole_of (suffix_in s)) (Ok (message_of s, suffix_at s)) (Err Suffix)
     unfolding first_of
-    r-whole f = r-sized ∙ simp f (by (whole_of (suffix_in s)))
+    r-whole f = r-sized ∙ simp f (by (message_of s, suffix_at s) (whole_of (suffix_in s)))
       where
-        by : (b : Bool) → answer_by Refused (Got (message_of s) (suffix_at s)) (cond (not b) (Barred Suffix) Clear) ≡ cond b (Got (message_of s) (suffix_at s)) (Refused Suffix)
-        by true = refl
-        by false = refl
+        by : (x : Message × Part) (b : Bool) → answer_by Err (Ok x) (cond (not b) (Err Suffix) (Ok tt)) ≡ cond b (Ok x) (Err Suffix)
+        by x true = refl
+        by x false = refl

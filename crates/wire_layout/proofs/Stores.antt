@@ -1,4 +1,5 @@
 -- What writing answers, by the tests that led there, and what three stores leave.
+use Rattle.std.specs.Prelude.{Ok, Err}
 use mathlib.Core.Path.{◌≡◌, refl, ap, ◌∙◌}
 use mathlib.Core.Bool.{Bool, true, false, cond}
 use mathlib.Core.List.{List, ◌++◌}
@@ -15,7 +16,6 @@ use Rattle.wire_layout.specs.declared.message.Header.{Header}
 use Rattle.numbers.specs.declared.stamp.Stamp.{Stamp}
 use Rattle.wire_layout.specs.declared.message.Message.{Message}
 use Rattle.numbers.specs.declared.refusal.Refusal.TheVariants.{Length, Field, Suffix, Room}
-use Rattle.wire_layout.specs.declared.message.Written.TheVariants.{Wrote, Barred}
 use Rattle.wire_layout.specs.Kinds.{kind_of, body_size, stamp_in}
 use Rattle.wire_layout.specs.Suffix.{whole_of}
 use Rattle.wire_layout.specs.Writing.{front_octets, port_octets, back_octets, header_octets, body_octets, octets_of, fields_fit, write_of}
@@ -47,26 +47,26 @@ fit h t e =
     }
 
 module _ (m : Message) (t : List ℕ) (room : ℕ) where
-  pub w-field : fields_fit m.header (stamp_in m.body) ≡ false → write_of m t room ≡ Barred Field
+  pub w-field : fields_fit m.header (stamp_in m.body) ≡ false → write_of m t room ≡ Err Field
   unfolding write_of first_of
   w-field f = simp f
 
   module _ (f : fields_fit m.header (stamp_in m.body) ≡ true) where
-    pub w-suffix : whole_of t ≡ false → write_of m t room ≡ Barred Suffix
+    pub w-suffix : whole_of t ≡ false → write_of m t room ≡ Err Suffix
     unfolding write_of first_of
     w-suffix w = simp (f, w)
 
     module _ (w : whole_of t ≡ true) where
-      pub w-length : 65_535 < body_size m.body + length t → write_of m t room ≡ Barred Length
+      pub w-length : 65_535 < body_size m.body + length t → write_of m t room ≡ Err Length
       unfolding write_of first_of
       w-length h = simp (f, w, lt-ltb 65_535 (body_size m.body + length t) h)
 
       module _ (l : body_size m.body + length t ≤ 65_535) where
-        pub w-room : room < body_size m.body + length t → write_of m t room ≡ Barred Room
+        pub w-room : room < body_size m.body + length t → write_of m t room ≡ Err Room
         unfolding write_of first_of
         w-room h = simp (f, w, le-ltb 65_535 (body_size m.body + length t) l, lt-ltb room (body_size m.body + length t) h)
 
-        pub w-wrote : body_size m.body + length t ≤ room → write_of m t room ≡ Wrote (body_size m.body + length t)
+        pub w-wrote : body_size m.body + length t ≤ room → write_of m t room ≡ Ok (body_size m.body + length t)
         unfolding write_of first_of
         w-wrote h = simp (f, w, le-ltb 65_535 (body_size m.body + length t) l, le-ltb room (body_size m.body + length t) h)
 

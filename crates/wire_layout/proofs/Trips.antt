@@ -1,4 +1,5 @@
 -- The two round trips: reading what was written gives the message, and writing what was read gives the octets.
+use Rattle.std.specs.Prelude.{Ok, Err}
 use mathlib.Core.Path.{◌≡◌, refl, sym, ap, ap₂, ◌∙◌}
 use mathlib.Core.Bool.{true, cond}
 use mathlib.Core.List.{List, [], ◌∷◌, ◌++◌, append_assoc}
@@ -12,8 +13,8 @@ use Rattle.numbers.specs.Stamps.{sound_of}
 use mir.Syntax.{w8, w16, w64}
 use mir.Val.{to_z, of_z}
 use mir.Facts.{to_z-of_z, of_z-to_z, Fits-of_z}
-use Rattle.wire_octets.specs.Octets.{num, big_endian}
-use Rattle.wire_octets.proofs.Digits.{Octets, part, num-digits, digits-num, take_part, num-below}
+use Rattle.wire_octets.specs.Octets.{num, part, big_endian}
+use Rattle.wire_octets.proofs.Digits.{Octets, num-digits, digits-num, take_part, num-below}
 use Rattle.wire_layout.specs.declared.message.Port.{Port}
 use Rattle.wire_layout.specs.declared.message.Header.{Header}
 use Rattle.numbers.specs.declared.stamp.Stamp.{Stamp}
@@ -23,13 +24,11 @@ use Rattle.wire_layout.specs.declared.message.Body.TheVariants.{Sync, DelayReq, 
 use Rattle.wire_layout.specs.declared.message.Message.{Message}
 use Rattle.numbers.specs.declared.refusal.Refusal.{Refusal}
 use Rattle.numbers.specs.declared.refusal.Refusal.TheVariants.{Room}
-use Rattle.wire_layout.specs.declared.message.Read.TheVariants.{Got, Refused}
-use Rattle.wire_layout.specs.declared.message.Written.TheVariants.{Wrote, Barred}
 use Rattle.wire_layout.specs.declared.message.Part.{Part}
 use Rattle.wire_layout.specs.Kinds.{fixed_length_of, kind_of, body_size, stamp_in}
 use Rattle.wire_layout.specs.Positions.{kind_in, version_in, length_in, port_at, header_of, stamp_at, offer_of, body_of, message_of}
 use Rattle.wire_layout.specs.Suffix.{whole_of}
-use Rattle.wire_layout.specs.Reading.{suffix_at, suffix_in, read_of}
+use Rattle.wire_layout.specs.Reading.{suffix_at, suffix_in, read_of, Read}
 use Rattle.wire_layout.specs.Writing.{front_bits, back_bits, header_octets, stamp_octets, port_octets, offer_bits, offer_octets, body_octets, octets_of, fields_fit, write_of}
 use Rattle.wire_layout.proofs.Known.{Known, k-sync, k-delay-req, k-follow-up, k-delay-resp, k-announce, choose, known}
 use Rattle.wire_layout.proofs.Sizes.{header-length, body-length, size-44, kind-16, size-fixed}
@@ -120,7 +119,7 @@ octets-length m n = rw length-append (omega (arith, header-length m.header (kind
 
 pub read-written : (m : Message) (t rest : List ℕ) → MessageIn m → fields_fit m.header (stamp_in m.body) ≡ true
     → whole_of t ≡ true → body_size m.body + length t ≤ 65_535
-    → read_of (octets_of m (body_size m.body + length t) ++ (t ++ rest)) ≡ Got m (record { from = body_size m.body; to = body_size m.body + length t })
+    → read_of (octets_of m (body_size m.body + length t) ++ (t ++ rest)) ≡ Ok (m, record { from = body_size m.body; to = body_size m.body + length t })
 read-written m t rest i f w l =
     let b = m.body in
     let n = body_size b + length t in
@@ -147,7 +146,7 @@ read-written m t rest i f w l =
       all = omega (arith, len, long);
     } in
     rw (r-whole s sized sound, suffix, w)
-    (λ x. Got (record { header = head x; body = body x }) (record { from = size x; to = len x }))
+    (λ x. Ok (record { header = head x; body = body x }, record { from = size x; to = len x }))
 
 -- SECOND ROUND TRIP: what was read is written as the octets that they were
 -- what is known of octets that were read
@@ -156,8 +155,8 @@ pub record Taken (s : List ℕ) : Type 0 where
   pub sound : sound_of (stamp_of s) ≡ true
   pub whole : whole_of (suffix_in s) ≡ true
 
-module _ (s : List ℕ) (m : Message) (p : Part) (got : read_of s ≡ Got m p) where
-  never : {P : Type 0} (r : Refusal) → read_of s ≡ Refused r → P
+module _ (s : List ℕ) (m : Message) (p : Part) (got : read_of s ≡ Ok (m, p)) where
+  never : {P : Type 0} (r : Refusal) → read_of s ≡ Err r → P
   never r e = absurd (let z : ◌≡◌ {A = ℕ} 0 1 = cc in omega arith)
 
   pub taken : Taken s
@@ -177,14 +176,17 @@ module _ (s : List ℕ) (m : Message) (p : Part) (got : read_of s ≡ Got m p) w
       (λ k. never _ (r_field s z k))))))
       (λ b. never _ (r-version s a (eqb-false _ _ b))))
 
-  same : Got m p ≡ Got (message_of s) (suffix_at s)
+  same : ◌≡◌ {A = Read} (Ok (m, p)) (Ok (message_of s, suffix_at s))
   same = let T = taken in sym got ∙ (rw T.whole at (r-whole s T.sized T.sound))
 
+  both : ◌≡◌ {A = Message × Part} (m, p) (message_of s, suffix_at s)
+  both = let e = same in cc
+
   is-message : m ≡ message_of s
-  is-message = let e = same in cc
+  is-message = ap (λ (x : Message × Part). x.0) both
 
   is-suffix : p ≡ suffix_at s
-  is-suffix = let e = same in cc
+  is-suffix = ap (λ (x : Message × Part). x.1) both
 
 module _ (s : List ℕ) (o : Octets s) (v : version_in s ≡ 2) where
   header-again : header_octets (header_of s) (kind_in s) (length_in s) ≡ part 34 0 s
@@ -229,7 +231,7 @@ kind-again s k-follow-up = refl
 kind-again s k-delay-resp = refl
 kind-again s k-announce = refl
 
-pub written_read : (s : List ℕ) (m : Message) (p : Part) → Octets s → read_of s ≡ Got m p → octets_of m p.to ++ suffix_in s ≡ take p.to s
+pub written_read : (s : List ℕ) (m : Message) (p : Part) → Octets s → read_of s ≡ Ok (m, p) → octets_of m p.to ++ suffix_in s ≡ take p.to s
 written_read s m p o got =
     let T = taken s m p got in
     let K = known (kind_in s) T.sized.head.kind in
@@ -251,7 +253,7 @@ pub record Writable (m : Message) (t : List ℕ) (n : ℕ) : Type 0 where
   pub is : n ≡ body_size m.body + length t
 
 -- what was read can be written
-again : (s : List ℕ) (m : Message) (p : Part) → Octets s → read_of s ≡ Got m p → Writable m (suffix_in s) p.to
+again : (s : List ℕ) (m : Message) (p : Part) → Octets s → read_of s ≡ Ok (m, p) → Writable m (suffix_in s) p.to
 again s m p o got =
     let T = taken s m p got in
     let K = known (kind_in s) T.sized.head.kind in
@@ -268,7 +270,7 @@ again s m p o got =
       is = e;
     }
 
-pub wrote-writable : (m : Message) (t : List ℕ) (room n : ℕ) → write_of m t room ≡ Wrote n → Writable m t n
+pub wrote-writable : (m : Message) (t : List ℕ) (room n : ℕ) → write_of m t room ≡ Ok n → Writable m t n
 wrote-writable m t room n e =
     choose (fields_fit m.header (stamp_in m.body)) (λ f.
     choose (whole_of t) (λ w.
@@ -283,26 +285,26 @@ wrote-writable m t room n e =
     z : ℕ
     z = body_size m.body + length t
 
-    barred : {P : Type 0} (r : Refusal) → write_of m t room ≡ Barred r → P
+    barred : {P : Type 0} (r : Refusal) → write_of m t room ≡ Err r → P
     barred r g = absurd (let z : ◌≡◌ {A = ℕ} 0 1 = cc in omega arith)
 
 -- what was written into a part is read from it
-pub there_and_back : (m : Message) (t d : List ℕ) (n : ℕ) → MessageIn m → write_of m t (length d) ≡ Wrote n
-    → read_of (octets_of m n ++ t ++ drop n d) ≡ Got m (record { from = body_size m.body; to = n })
+pub there_and_back : (m : Message) (t d : List ℕ) (n : ℕ) → MessageIn m → write_of m t (length d) ≡ Ok n
+    → read_of (octets_of m n ++ t ++ drop n d) ≡ Ok (m, record { from = body_size m.body; to = n })
 there_and_back m t d n i e =
     let f = wrote-writable m t (length d) n e in
     let z = body_size m.body + length t in
     rw f.is (ap read_of (append_assoc (octets_of m z) t (drop z d)) ∙ read-written m t (drop z d) i f.fit f.whole f.short)
 
 -- what was read is written again where there is room for it
-pub back-and-there : (s : List ℕ) (m : Message) (p : Part) (room : ℕ) → Octets s → read_of s ≡ Got m p
-    → write_of m (suffix_in s) room ≡ cond (ltb room p.to) (Barred Room) (Wrote p.to)
+pub back-and-there : (s : List ℕ) (m : Message) (p : Part) (room : ℕ) → Octets s → read_of s ≡ Ok (m, p)
+    → write_of m (suffix_in s) room ≡ cond (ltb room p.to) (Err Room) (Ok p.to)
 back-and-there s m p room o got =
     let a = again s m p o got in
     let t = suffix_in s in
     choose (ltb room p.to)
     (λ e. rw e (w-room m t room a.fit a.whole a.short (omega (arith, a.is, ltb-true room p.to e))))
-    (λ e. rw e (w-wrote m t room a.fit a.whole a.short (omega (arith, a.is, ltb-false room p.to e)) ∙ ap Wrote (sym a.is)))
+    (λ e. rw e (w-wrote m t room a.fit a.whole a.short (omega (arith, a.is, ltb-false room p.to e)) ∙ ap Ok (sym a.is)))
 
 -- where the suffix of what was read lies
 pub record Lies (s : List ℕ) (p : Part) : Type 0 where
@@ -310,7 +312,7 @@ pub record Lies (s : List ℕ) (p : Part) : Type 0 where
   pub inside : p.to ≤ length s
   pub is : take (p.to - p.from) (drop p.from s) ≡ suffix_in s
 
-pub lies : (s : List ℕ) (m : Message) (p : Part) → read_of s ≡ Got m p → Lies s p
+pub lies : (s : List ℕ) (m : Message) (p : Part) → read_of s ≡ Ok (m, p) → Lies s p
 lies s m p got =
     let z = (taken s m p got).sized in
     rw (is-suffix s m p got) (record { order = z.fixed; inside = z.all; is = refl })

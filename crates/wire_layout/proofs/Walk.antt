@@ -84,10 +84,10 @@ module _ (t : List ℕ) (at : ℕ) where
   breaks (rest zero e s) h = absurd (omega arith)
   breaks (rest (suc f) e s) h = s ∙ ap (whole_from (whole_within f) (drop at t)) h
 
-  pub fits : (k n : ℕ) → tlv_of (drop at t) ≡ Whole k n → at + 4 + n ≤ length t
+  pub fits : (k n : ℕ) → tlv_of (drop at t) ≡ Whole k n → at + (4 + n) ≤ length t
   fits k n h = omega (arith, rw h at (room (drop at t)), length-drop at t)
 
-  pub next : (k n : ℕ) → Rest t at → tlv_of (drop at t) ≡ Whole k n → Rest t (at + 4 + n)
+  pub next : (k n : ℕ) → Rest t at → tlv_of (drop at t) ≡ Whole k n → Rest t (at + (4 + n))
   unfolding whole_within
   next k n (rest zero e s) h = absurd (omega arith)
-  next k n (rest (suc f) e s) h = rest f (omega (arith, fits k n h)) (s ∙ ap (whole_from (whole_within f) (drop at t)) h ∙ rw (drop-drop, add_assoc))
+  next k n (rest (suc f) e s) h = rest f (omega (arith, fits k n h)) (s ∙ ap (whole_from (whole_within f) (drop at t)) h ∙ rw drop-drop)

@@ -1,14 +1,18 @@
 -- What reading answers: the first of its refusals that is due, in the order of `of_reading`, else the message and where its suffix lies.
-use Rattle.std.specs.Prelude.{not, List, ℕ, ◌-◌, ltb, eqb, length, take, drop}
+use Rattle.std.specs.Prelude.{not, List, ℕ, ◌-◌, ltb, eqb, length, take, drop, Ok, Err, Result}
 use Rattle.numbers.specs.Grounds.{Ground, first_of, answer_by}
 use Rattle.numbers.specs.Orders.{of_reading}
 use Rattle.numbers.specs.Stamps.{sound_of}
-use Rattle.wire_layout.specs.declared.message.Read.{Read}
-use Rattle.wire_layout.specs.declared.message.Read.TheVariants.{Got, Refused}
 use Rattle.wire_layout.specs.declared.message.Part.{Part}
 use Rattle.wire_layout.specs.Kinds.{fixed_length_of, stamp_in}
 use Rattle.wire_layout.specs.Positions.{kind_in, version_in, length_in, body_of, message_of}
 use Rattle.wire_layout.specs.Suffix.{whole_of}
+use Rattle.numbers.specs.declared.refusal.Refusal.{Refusal}
+use Rattle.wire_layout.specs.declared.message.Message.{Message}
+
+-- what reading answers: the message and where its suffix lies, or the refusal
+abbrev pub Read : Type 0
+Read = Result (Message × Part) Refusal
 
 -- the suffix comes behind the fixed part and ends at messageLength
 abbrev pub suffix_at : List ℕ → Part
@@ -30,4 +34,4 @@ reading_grounds s =
     (not (whole_of (suffix_in s)))
 
 unfoldable pub read_of : List ℕ → Read
-read_of s = answer_by Refused (Got (message_of s) (suffix_at s)) (first_of (reading_grounds s))
+read_of s = answer_by Err (Ok (message_of s, suffix_at s)) (first_of (reading_grounds s))

@@ -1,5 +1,5 @@
 -- What writing answers and leaves: the first of its refusals that is due, in the order of `of_writing`, else the message's octets in front of what was there.
-use Rattle.std.specs.Prelude.{Bool, false, not, cond, List, [], ◌∷◌, ◌++◌, ℕ, ◌+◌, ◌*◌, ltb, length, drop}
+use Rattle.std.specs.Prelude.{Bool, false, not, cond, List, [], ◌∷◌, ◌++◌, ℕ, ◌+◌, ◌*◌, ltb, length, drop, Ok, Err, Result}
 use Rattle.std.specs.Int.{w8, w16, w64}
 use Rattle.std.proofs.Common.{of_z}
 use Rattle.wire_octets.specs.Octets.{big_endian}
@@ -13,10 +13,13 @@ use Rattle.wire_layout.specs.declared.message.Offer.{Offer}
 use Rattle.wire_layout.specs.declared.message.Body.{Body}
 use Rattle.wire_layout.specs.declared.message.Body.TheVariants.{Sync, DelayReq, FollowUp, DelayResp, Announce}
 use Rattle.wire_layout.specs.declared.message.Message.{Message}
-use Rattle.wire_layout.specs.declared.message.Written.{Written}
-use Rattle.wire_layout.specs.declared.message.Written.TheVariants.{Wrote, Barred}
 use Rattle.wire_layout.specs.Kinds.{kind_of, body_size, stamp_in}
 use Rattle.wire_layout.specs.Suffix.{whole_of}
+use Rattle.numbers.specs.declared.refusal.Refusal.{Refusal}
+
+-- what writing answers: the message's length, or the refusal
+abbrev pub Written : Type 0
+Written = Result ℕ Refusal
 
 -- the octets of each part, in their order; the bits of a signed field are given
 unfoldable pub port_octets : Port → List ℕ
@@ -76,9 +79,9 @@ writing_grounds m t room =
     (ltb room (body_size m.body + length t))
 
 unfoldable pub write_of : Message → List ℕ → ℕ → Written
-write_of m t room = answer_by Barred (Wrote (body_size m.body + length t)) (first_of (writing_grounds m t room))
+write_of m t room = answer_by Err (Ok (body_size m.body + length t)) (first_of (writing_grounds m t room))
 
 -- what is left in the part that was lent: the message's octets and then what was there; all as it was after a refusal
 abbrev pub left_by : Written → Message → List ℕ → List ℕ → List ℕ
-left_by (Wrote n) m t d = octets_of m n ++ t ++ drop n d
-left_by (Barred r) m t d = d
+left_by (Ok n) m t d = octets_of m n ++ t ++ drop n d
+left_by (Err r) m t d = d

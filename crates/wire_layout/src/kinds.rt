@@ -2,6 +2,7 @@
 ghost use Rattle.std.specs.Prelude.{◌≡◌};
 ghost use Rattle.wire_layout.specs.Kinds.{fixed_length_of};
 
+// Associated constants, and no trait of them: no code is generic over a kind.
 #[derive(Clone, Copy)]
 pub struct Sync {}
 
@@ -48,6 +49,7 @@ impl Announce {
 }
 
 // The fixed length of a kind, 0 where there is no such kind.
+// 0 and no Option: that is the length which reading asks for.
 #[tactic(auto, unfolding(crate::specs::Kinds::fixed_length_of))]
 pub fn fixed_length(kind: u8) -> usize
     ensures { result ≡ fixed_length_of kind }

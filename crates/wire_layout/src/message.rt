@@ -3,12 +3,11 @@ ghost use Rattle.std.specs.Prelude.{◌≡◌};
 ghost use Rattle.wire_layout.specs.Kinds.{kind_of, body_size, stamp_in};
 
 use crate::kinds;
-use numbers::refusal::Refusal;
 use numbers::stamp::Stamp;
 
 // A port identity: 8 octets of clock identity, 2 of port number.
 #[repr(C)]
-#[derive(Clone, Copy)]
+#[derive(Clone, Copy, PartialEq, Eq, PartialOrd, Ord, Default)]
 pub struct Port {
     pub clock: u64,
     pub number: u16,
@@ -16,7 +15,7 @@ pub struct Port {
 
 // The header but for what is derived: version, kind and messageLength.
 #[repr(C)]
-#[derive(Clone, Copy)]
+#[derive(Clone, Copy, Default)]
 pub struct Header {
     pub sdo: u8,
     pub minor: u8,
@@ -33,7 +32,7 @@ pub struct Header {
 
 // What an Announce offers behind its timestamp.
 #[repr(C)]
-#[derive(Clone, Copy)]
+#[derive(Clone, Copy, Default)]
 pub struct Offer {
     pub utc: i16,
     pub reserved: u8,
@@ -63,25 +62,11 @@ pub struct Message {
     pub body: Body,
 }
 
-// The octets of a part, from the first to just before the last.
+// The octets of a part, from the first to just before the last. It is copied, as std's Range is not.
 #[derive(Clone, Copy)]
 pub struct Part {
     pub from: usize,
     pub to: usize,
-}
-
-// What reading answers: the message and where its TLV suffix lies, or the refusal.
-#[derive(Clone, Copy)]
-pub enum Read {
-    Got(Message, Part),
-    Refused(Refusal),
-}
-
-// What writing answers: the message's length, or the refusal.
-#[derive(Clone, Copy)]
-pub enum Written {
-    Wrote(usize),
-    Barred(Refusal),
 }
 
 impl Body {
@@ -101,13 +86,7 @@ impl Body {
     pub fn size(self) -> usize
         ensures { result ≡ body_size self }
     {
-        match self {
-            Body::Sync(_) => kinds::Sync::LENGTH,
-            Body::DelayReq(_) => kinds::DelayReq::LENGTH,
-            Body::FollowUp(_) => kinds::FollowUp::LENGTH,
-            Body::DelayResp(_, _) => kinds::DelayResp::LENGTH,
-            Body::Announce(_, _) => kinds::Announce::LENGTH,
-        }
+        kinds::fixed_length(self.kind())
     }
 
     // The timestamp.
@@ -115,11 +94,11 @@ impl Body {
         ensures { result ≡ stamp_in self }
     {
         match self {
-            Body::Sync(t) => t,
-            Body::DelayReq(t) => t,
-            Body::FollowUp(t) => t,
-            Body::DelayResp(t, _) => t,
-            Body::Announce(t, _) => t,
+            Body::Sync(t)
+            | Body::DelayReq(t)
+            | Body::FollowUp(t)
+            | Body::DelayResp(t, _)
+            | Body::Announce(t, _) => t,
         }
     }
 }

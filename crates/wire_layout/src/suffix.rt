@@ -2,9 +2,7 @@
 ghost use Rattle.std.specs.Prelude.{◌≡◌, drop};
 ghost use Rattle.wire_layout.specs.Suffix.{tlv_of, whole_of};
 
-use wire_octets::u16_at;
-
-// What is at a place of a suffix: nothing more, a whole TLV with its type and its value's length, or neither.
+// What is at a place of a suffix: nothing more, a whole TLV with its type and its value's length, or neither. Three cases, so no Option or Result.
 #[derive(Clone, Copy)]
 pub enum Tlv {
     End,
@@ -13,24 +11,24 @@ pub enum Tlv {
 }
 
 // The TLV from `at`. The next one comes behind its 4 octets and its value.
+#[tactic(auto, unfolding(crate::specs::Suffix::tlv_of, wire_octets::specs::Octets::num))]
 pub fn tlv_at(t: &[u8], at: usize) -> Tlv
     ensures { result ≡ tlv_of (drop at t.now) }
 {
-    if t.len() <= at {
+    let Some(rest) = t.get(at..) else {
         return Tlv::End;
+    };
+    match rest {
+        [] => Tlv::End,
+        [a, b, c, d, value @ ..] => {
+            let n = u16::from_be_bytes([*c, *d]) as usize;
+            if n % 2 != 0 || value.len() < n {
+                return Tlv::Broken;
+            }
+            Tlv::Whole(u16::from_be_bytes([*a, *b]), n)
+        }
+        _ => Tlv::Broken,
     }
-    let left = t.len() - at;
-    if left < 4 {
-        return Tlv::Broken;
-    }
-    let n = u16_at(t, at + 2) as usize;
-    if n % 2 != 0 {
-        return Tlv::Broken;
-    }
-    if left - 4 < n {
-        return Tlv::Broken;
-    }
-    Tlv::Whole(u16_at(t, at), n)
 }
 
 // Whole, even TLVs and nothing else.
@@ -38,12 +36,12 @@ pub fn whole(t: &[u8]) -> bool
     ensures { result ≡ whole_of t.now }
 {
     let mut at = 0;
-    let ok = loop {
+    // A loop that yields by break what ended the walk: a chain would be a state, a step and a fold that stops, and no plainer.
+    loop {
         match tlv_at(t, at) {
             Tlv::End => break true,
-            Tlv::Whole(_, n) => at = at + 4 + n,
+            Tlv::Whole(_, n) => at += 4 + n,
             Tlv::Broken => break false,
         }
-    };
-    ok
+    }
 }

@@ -1,24 +1,13 @@
--- Two's complement by arithmetic, over the width: what -1 - m is, which bits are negative, and what -1 - z is there.
-use mathlib.Core.Path.{◌≡◌, refl, ap, ◌∙◌}
+-- Two's complement by arithmetic, over the width: what -1 - z and the bits of a negative number are.
+use mathlib.Core.Path.{◌≡◌, refl}
 use mathlib.Core.Bool.{true, false}
-use Prim.Native.Nat.{ℕ, zero, suc, ◌-◌, ◌<◌, ◌^◌}
-use native.Mathlib.Nat.{zero-add}
+use Prim.Native.Nat.{ℕ, suc, ◌-◌, ◌<◌, ◌^◌}
 use native.Mathlib.Omega.{arith}
 use lib.IntN.{ℤ, pos, negsuc, ◌-ℤ◌}
 use lib.Signed.{lt_z}
 use mir.Syntax.{Width}
-use mir.Val.{to_z, of_z, SFits, bits, hbits}
-use mir.Facts.{to_z-neg}
+use mir.Val.{of_z, SFits, bits, hbits}
 use Rattle.numbers.proofs.Integers.{ext, up-add, dn-add, lt_z-true, lt_z-false}
-
-pub below-minus-one : (m : ℕ) → negsuc 0 -ℤ pos m ≡ negsuc m
-below-minus-one zero = refl
-below-minus-one (suc m) = rw zero-add
-
-pub high : (w : Width) (x : ℕ) → 2 ^ bits w - 1 - x < 2 ^ hbits w → x < 2 ^ bits w → to_z w x ≡ negsuc (2 ^ bits w - 1 - x)
-high w x h f =
-    let e : x ≡ 2 ^ bits w - suc (2 ^ bits w - 1 - x) = omega arith in
-    ap (to_z w) e ∙ to_z-neg w (2 ^ bits w - 1 - x) h
 
 pub record Negative (w : Width) (z : ℤ) : Type 0 where
   pub n : ℕ

@@ -6,16 +6,13 @@ use native.Mathlib.Nat.{add-zero, add-suc, add_assoc, mul_assoc, pow-succ', div-
 use native.Mathlib.Omega.{arith}
 use lib.ListN.{length, get_or, take, drop, length-append, length-drop}
 use lib.Seq.{get_or_at, drop-cons, take_at, drop-drop, drop-append-add, length-take-le}
-use Rattle.wire_octets.specs.Octets.{num, shift, big_endian, put}
+use Rattle.std.proofs.Common.{rules}
+use Rattle.std.specs.Int.{w16, w32, w64, from_be_bytes, to_be_bytes}
+use Rattle.wire_octets.specs.Octets.{num, part, shift, big_endian, put}
 
 -- each element is an octet
 abbrev pub Octets : List ℕ → Type 0
 Octets s = (i : ℕ) → get_or s i 0 < 256
-
--- the k octets of s from `at`
-unfoldable pub part : ℕ → ℕ → List ℕ → List ℕ
-part zero at s = []
-part (suc k) at s = get_or s at 0 ∷ part k (suc at) s
 
 pub length_digits : (k x : ℕ) → length (big_endian k x) ≡ k
 unfolding big_endian
@@ -93,3 +90,28 @@ put-put d at a b n e h =
     rw (← l) (drop-append-add (take at d ++ a) (drop (length (take at d ++ a)) d) (length b) ∙ drop-drop (length b) (length (take at d ++ a)) d) in
     let z : at + length (a ++ b) ≡ n + length b = rw length-append (omega arith) in
     rw (x, take_at (take at d ++ a) (drop n d) n l, y, z) (simp append_assoc)
+
+-- what std reads is the number, and what it writes are the number's octets
+pub read-2 : (at : ℕ) (s : List ℕ) → from_be_bytes w16 (part 2 at s) ≡ num 2 at s
+unfolding num part
+read-2 at s = search rules
+
+pub read-4 : (at : ℕ) (s : List ℕ) → from_be_bytes w32 (part 4 at s) ≡ num 4 at s
+unfolding num part
+read-4 at s = search rules
+
+pub read-8 : (at : ℕ) (s : List ℕ) → from_be_bytes w64 (part 8 at s) ≡ num 8 at s
+unfolding num part
+read-8 at s = search rules
+
+pub written-2 : (x : ℕ) → to_be_bytes w16 x ≡ big_endian 2 x
+unfolding big_endian
+written-2 x = refl
+
+pub written-4 : (x : ℕ) → to_be_bytes w32 x ≡ big_endian 4 x
+unfolding big_endian
+written-4 x = refl
+
+pub written-8 : (x : ℕ) → to_be_bytes w64 x ≡ big_endian 8 x
+unfolding big_endian
+written-8 x = refl

@@ -1,9 +1,14 @@
--- Big-endian numbers over the width: `num k at s` is the number in the k octets of s from `at`, `digits k x` the k octets of x.
+-- Big-endian numbers over the width: `num k at s` is the number in the k octets of s from `at`, `part k at s` are those octets, `big_endian k x` the k octets of x.
 use Rattle.std.specs.Prelude.{List, [], ◌∷◌, ◌++◌, ℕ, zero, suc, ◌+◌, ◌*◌, ◌/◌, ◌%◌, ◌^◌, length, get_or, take, drop}
 
 unfoldable pub num : ℕ → ℕ → List ℕ → ℕ
 num zero at s = 0
 num (suc k) at s = num k at s * 256 + get_or s (at + k) 0
+
+-- the k octets of s from `at`
+unfoldable pub part : ℕ → ℕ → List ℕ → List ℕ
+part zero at s = []
+part (suc k) at s = get_or s at 0 ∷ part k (suc at) s
 
 -- x without its last k octets
 abbrev pub shift : ℕ → ℕ → ℕ

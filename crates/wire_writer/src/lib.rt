@@ -2,36 +2,15 @@
 #![tactic(auto)]
 
 ghost use Rattle.std.specs.Prelude.{◌≡◌, ◌+◌, ◌≤◌, ◌<◌, length};
-ghost use Rattle.std.specs.Int.{w8, w16, w64};
-ghost use Rattle.std.proofs.Common.{of_z};
 ghost use Rattle.wire_octets.specs.Octets.{put};
 ghost use Rattle.wire_layout.specs.Kinds.{body_size};
 ghost use Rattle.wire_layout.specs.Writing.{port_octets, front_octets, back_octets, header_octets, stamp_octets, offer_octets, body_octets, fields_fit, write_of, left_by};
 
 use numbers::refusal::Refusal;
 use numbers::stamp::{Stamp, sound};
-use wire_layout::message::{Body, Header, Message, Offer, Port, Written};
+use wire_layout::message::{Body, Header, Message, Offer, Port};
 use wire_layout::suffix::whole;
-use wire_octets::{bits8, bits16, bits64, copy_in};
-
-// The bits of the signed fields.
-fn correction_bits(h: Header) -> u64
-    ensures { result ≡ of_z w64 h.correction }
-{
-    bits64(h.correction)
-}
-
-fn interval_bits(h: Header) -> u8
-    ensures { result ≡ of_z w8 h.interval }
-{
-    bits8(h.interval)
-}
-
-fn utc_bits(o: Offer) -> u16
-    ensures { result ≡ of_z w16 o.utc }
-{
-    bits16(o.utc)
-}
+use wire_octets::copy_in;
 
 // Each part as its octets. The header in front of its source's port identity:
 #[tactic(auto, unfolding(wire_layout::specs::Writing::front_bits, wire_octets::specs::Octets::big_endian))]
@@ -39,30 +18,31 @@ fn front_octets(h: Header, kind: u8, len: u16) -> [u8; 20]
     requires { (h.sdo < 16) × (h.minor < 16) × (kind < 16) }
     ensures { result ≡ front_octets h kind len }
 {
-    let correction = correction_bits(h);
-    let flags = h.flags;
-    let specific = h.specific;
+    let [len0, len1] = len.to_be_bytes();
+    let [flags0, flags1] = h.flags.to_be_bytes();
+    let [c0, c1, c2, c3, c4, c5, c6, c7] = h.correction.to_be_bytes();
+    let [s0, s1, s2, s3] = h.specific.to_be_bytes();
     [
         h.sdo * 16 + kind,
         h.minor * 16 + 2,
-        ((len >> 8) % 256) as u8,
-        (len % 256) as u8,
+        len0,
+        len1,
         h.domain,
         h.minorsdo,
-        ((flags >> 8) % 256) as u8,
-        (flags % 256) as u8,
-        ((correction >> 56) % 256) as u8,
-        ((correction >> 48) % 256) as u8,
-        ((correction >> 40) % 256) as u8,
-        ((correction >> 32) % 256) as u8,
-        ((correction >> 24) % 256) as u8,
-        ((correction >> 16) % 256) as u8,
-        ((correction >> 8) % 256) as u8,
-        (correction % 256) as u8,
-        ((specific >> 24) % 256) as u8,
-        ((specific >> 16) % 256) as u8,
-        ((specific >> 8) % 256) as u8,
-        (specific % 256) as u8,
+        flags0,
+        flags1,
+        c0,
+        c1,
+        c2,
+        c3,
+        c4,
+        c5,
+        c6,
+        c7,
+        s0,
+        s1,
+        s2,
+        s3,
     ]
 }
 
@@ -71,84 +51,56 @@ fn front_octets(h: Header, kind: u8, len: u16) -> [u8; 20]
 fn back_octets(h: Header) -> [u8; 4]
     ensures { result ≡ back_octets h }
 {
-    let interval = interval_bits(h);
-    let sequence = h.sequence;
-    [
-        ((sequence >> 8) % 256) as u8,
-        (sequence % 256) as u8,
-        h.control,
-        interval,
-    ]
+    let [s0, s1] = h.sequence.to_be_bytes();
+    [s0, s1, h.control, h.interval.cast_unsigned()]
 }
 
 #[tactic(auto, unfolding(wire_layout::specs::Writing::stamp_octets, wire_octets::specs::Octets::big_endian))]
 fn stamp_octets(t: Stamp) -> [u8; 10]
     ensures { result ≡ stamp_octets t }
 {
-    let seconds = t.seconds;
-    let nanoseconds = t.nanoseconds;
-    [
-        ((seconds >> 40) % 256) as u8,
-        ((seconds >> 32) % 256) as u8,
-        ((seconds >> 24) % 256) as u8,
-        ((seconds >> 16) % 256) as u8,
-        ((seconds >> 8) % 256) as u8,
-        (seconds % 256) as u8,
-        ((nanoseconds >> 24) % 256) as u8,
-        ((nanoseconds >> 16) % 256) as u8,
-        ((nanoseconds >> 8) % 256) as u8,
-        (nanoseconds % 256) as u8,
-    ]
+    let [_, _, s0, s1, s2, s3, s4, s5] = t.seconds.to_be_bytes();
+    let [n0, n1, n2, n3] = t.nanoseconds.to_be_bytes();
+    [s0, s1, s2, s3, s4, s5, n0, n1, n2, n3]
 }
 
 #[tactic(auto, unfolding(wire_layout::specs::Writing::port_octets, wire_octets::specs::Octets::big_endian))]
 fn port_octets(p: Port) -> [u8; 10]
     ensures { result ≡ port_octets p }
 {
-    let clock = p.clock;
-    let number = p.number;
-    [
-        ((clock >> 56) % 256) as u8,
-        ((clock >> 48) % 256) as u8,
-        ((clock >> 40) % 256) as u8,
-        ((clock >> 32) % 256) as u8,
-        ((clock >> 24) % 256) as u8,
-        ((clock >> 16) % 256) as u8,
-        ((clock >> 8) % 256) as u8,
-        (clock % 256) as u8,
-        ((number >> 8) % 256) as u8,
-        (number % 256) as u8,
-    ]
+    let [c0, c1, c2, c3, c4, c5, c6, c7] = p.clock.to_be_bytes();
+    let [n0, n1] = p.number.to_be_bytes();
+    [c0, c1, c2, c3, c4, c5, c6, c7, n0, n1]
 }
 
 #[tactic(auto, unfolding(wire_layout::specs::Writing::offer_bits, wire_octets::specs::Octets::big_endian))]
 fn offer_octets(o: Offer) -> [u8; 20]
     ensures { result ≡ offer_octets o }
 {
-    let utc = utc_bits(o);
-    let variance = o.variance;
-    let grandmaster = o.grandmaster;
-    let steps = o.steps;
+    let [u0, u1] = o.utc.to_be_bytes();
+    let [v0, v1] = o.variance.to_be_bytes();
+    let [g0, g1, g2, g3, g4, g5, g6, g7] = o.grandmaster.to_be_bytes();
+    let [s0, s1] = o.steps.to_be_bytes();
     [
-        ((utc >> 8) % 256) as u8,
-        (utc % 256) as u8,
+        u0,
+        u1,
         o.reserved,
         o.priority1,
         o.class,
         o.accuracy,
-        ((variance >> 8) % 256) as u8,
-        (variance % 256) as u8,
+        v0,
+        v1,
         o.priority2,
-        ((grandmaster >> 56) % 256) as u8,
-        ((grandmaster >> 48) % 256) as u8,
-        ((grandmaster >> 40) % 256) as u8,
-        ((grandmaster >> 32) % 256) as u8,
-        ((grandmaster >> 24) % 256) as u8,
-        ((grandmaster >> 16) % 256) as u8,
-        ((grandmaster >> 8) % 256) as u8,
-        (grandmaster % 256) as u8,
-        ((steps >> 8) % 256) as u8,
-        (steps % 256) as u8,
+        g0,
+        g1,
+        g2,
+        g3,
+        g4,
+        g5,
+        g6,
+        g7,
+        s0,
+        s1,
         o.time,
     ]
 }
@@ -159,30 +111,19 @@ fn put_header(out: &mut [u8], h: Header, kind: u8, len: u16)
     requires sdo_bound { (h.sdo < 16) × (h.minor < 16) × (kind < 16) }
     ensures { out.new ≡ put out.old 0 (header_octets h kind len) }
 {
-    let source = h.source;
-    let front = front_octets(h, kind, len);
-    let port = port_octets(source);
-    let back = back_octets(h);
-    copy_in(out, 0, &front);
-    copy_in(out, 20, &port);
-    copy_in(out, 30, &back);
+    copy_in(out, 0, &front_octets(h, kind, len));
+    copy_in(out, 20, &port_octets(h.source));
+    copy_in(out, 30, &back_octets(h));
 }
 
 fn put_body(out: &mut [u8], b: Body)
     requires { body_size b ≤ length out.old }
     ensures { out.new ≡ put out.old 34 (body_octets b) }
 {
-    let stamp = stamp_octets(b.stamp());
-    copy_in(out, 34, &stamp);
+    copy_in(out, 34, &stamp_octets(b.stamp()));
     match b {
-        Body::DelayResp(_, p) => {
-            let port = port_octets(p);
-            copy_in(out, 44, &port);
-        }
-        Body::Announce(_, o) => {
-            let offer = offer_octets(o);
-            copy_in(out, 44, &offer);
-        }
+        Body::DelayResp(_, p) => copy_in(out, 44, &port_octets(p)),
+        Body::Announce(_, o) => copy_in(out, 44, &offer_octets(o)),
         _ => {}
     }
 }
@@ -192,39 +133,32 @@ fn put_body(out: &mut [u8], b: Body)
 fn fields_fit(h: Header, t: Stamp) -> bool
     ensures { result ≡ fields_fit h t }
 {
-    if h.sdo < 16 {
-        if h.minor < 16 {
-            return sound(t);
-        }
-    }
-    false
+    h.sdo < 16 && h.minor < 16 && sound(t)
 }
 
 // The message's length, its octets being in front of the lent part; or the first refusal that holds, the part being as it was.
-pub fn write(m: Message, suffix: &[u8], part: &mut [u8]) -> Written
+#[tactic(auto, unfolding(wire_layout::specs::Writing::write_of, numbers::specs::Grounds::first_of))]
+pub fn write(m: Message, suffix: &[u8], part: &mut [u8]) -> Result<usize, Refusal>
     ensures value { result ≡ write_of m suffix.now (length part.old) }
     ensures part_after { part.new ≡ left_by (write_of m suffix.now (length part.old)) m suffix.now part.old }
 {
-    let h = m.header;
-    let b = m.body;
-    if fields_fit(h, b.stamp()) {
-        if whole(suffix) {
-            let fixed = b.size();
-            if 65_535 - fixed < suffix.len() {
-                return Written::Barred(Refusal::Length);
-            }
-            let n = fixed + suffix.len();
-            if part.len() < n {
-                return Written::Barred(Refusal::Room);
-            }
-            put_header(part, h, b.kind(), n as u16);
-            put_body(part, b);
-            copy_in(part, fixed, suffix);
-            Written::Wrote(n)
-        } else {
-            Written::Barred(Refusal::Suffix)
-        }
-    } else {
-        Written::Barred(Refusal::Field)
+    let Message { header, body } = m;
+    if !fields_fit(header, body.stamp()) {
+        return Err(Refusal::Field);
     }
+    if !whole(suffix) {
+        return Err(Refusal::Suffix);
+    }
+    let fixed = body.size();
+    let Ok(length) = u16::try_from(fixed + suffix.len()) else {
+        return Err(Refusal::Length);
+    };
+    let n = usize::from(length);
+    if part.len() < n {
+        return Err(Refusal::Room);
+    }
+    put_header(part, header, body.kind(), length);
+    put_body(part, body);
+    copy_in(part, fixed, suffix);
+    Ok(n)
 }

@@ -7,5 +7,5 @@ use Rattle.unit_ticking.proofs.tick.Goals as goal
 pub returns : goal.returns
 returns c =
     let a = c.args in
-    rw (c.pulsed-moved.ensures, c.take-taken.ensures, back c.ranges.reference, back c.ranges.clock)
+    rw (c.pulsed-moved.ensures, c.take-answer.ensures.answer, c.take-answer.ensures.watch, back c.ranges.reference, back c.ranges.clock)
     (by-outcome a.core a.servo a.watch (since_of a.watch) a.reference a.clock)

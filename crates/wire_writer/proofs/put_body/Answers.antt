@@ -11,12 +11,12 @@ pub returns-in-DelayResp : goal.returns-in-DelayResp
 returns-in-DelayResp c =
     let a = c.in-DelayResp in
     let t = a.field-0 in
-    rw (a.is, c.copy_in-in-DelayResp.ensures, c.port_octets-port.ensures, c.copy_in.ensures, c.stamp_octets-stamp.ensures, c.stamp.ensures ∙ ap stamp_in a.is)
+    rw (a.is, c.copy_in-in-DelayResp.ensures, c.port_octets.ensures, c.copy_in.ensures, c.stamp_octets.ensures, c.stamp.ensures ∙ ap stamp_in a.is)
     (put-put c.args.out.now 34 (stamp_octets t) (port_octets a.p) 44 (omega (arith, stamp-length t)) (omega (arith, c.requires, ap body_size a.is, port-length a.p)))
 
 pub returns-in-Announce : goal.returns-in-Announce
 returns-in-Announce c =
     let a = c.in-Announce in
     let t = a.field-0 in
-    rw (a.is, c.copy_in-in-Announce.ensures, c.offer_octets-offer.ensures, c.copy_in.ensures, c.stamp_octets-stamp.ensures, c.stamp.ensures ∙ ap stamp_in a.is)
+    rw (a.is, c.copy_in-in-Announce.ensures, c.offer_octets.ensures, c.copy_in.ensures, c.stamp_octets.ensures, c.stamp.ensures ∙ ap stamp_in a.is)
     (put-put c.args.out.now 34 (stamp_octets t) (offer_octets a.o) 44 (omega (arith, stamp-length t)) (omega (arith, c.requires, ap body_size a.is, offer-length a.o)))

@@ -23,13 +23,13 @@ returns-then-is_step c =
     let used = c.filter-delays.result.used in
     let small : used < 2 ^ 32 = search rules in
     let fits : SFits w64 c.args.forward.0 = search rules in
-    (rw (back fits, back-pos {n = used} (omega arith), back (offset c.args.forward.0 used c.requires small)) at c.say.ensures)
-    ∙ accept-step c.args.self c.args.forward.0 c.args.delay c.filter-delays.result c.filter-delays.ensures (sym c.is_step.ensures ∙ c.if-is_step.true)
+    rw (c.from.ensures, back fits, back-pos {n = used} (omega arith), back (offset c.args.forward.0 used c.requires small))
+    (accept-step c.args.self.now c.args.forward.0 c.args.delay c.filter-delays.result c.filter-delays.ensures (sym c.is_step.ensures ∙ c.if-is_step.true))
 
 pub returns : goal.returns
 returns c =
     let used = c.filter-delays.result.used in
     let small : used < 2 ^ 32 = search rules in
     let fits : SFits w64 c.args.forward.0 = search rules in
-    (rw (back fits, back-pos {n = used} (omega arith), back (offset c.args.forward.0 used c.requires small), back-pos {n = c.args.delay} (omega arith)) at c.say-2.ensures)
-    ∙ accept-measured c.args.self c.args.forward.0 c.args.delay c.filter-delays.result c.filter-delays.ensures (sym c.is_step.ensures ∙ c.if-is_step.false)
+    rw (c.break_rows.ensures, c.from.ensures, c.from-2.ensures, c.from-3.ensures, back fits, back-pos {n = used} (omega arith), back (offset c.args.forward.0 used c.requires small), back-pos {n = c.args.delay} (omega arith))
+    (accept-measured c.args.self.now c.args.forward.0 c.args.delay c.filter-delays.result c.filter-delays.ensures (sym c.is_step.ensures ∙ c.if-is_step.false))

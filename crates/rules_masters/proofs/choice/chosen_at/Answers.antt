@@ -1,9 +1,9 @@
 -- The best of the candidates is the master of the records.
-use Rattle.std.proofs.Common.{◌∙◌}
+use Rattle.std.proofs.Common.{◌≡◌, ◌∙◌, length, rules}
 use Rattle.rules_masters.proofs.Candidates.{best-at}
 use Rattle.rules_masters.proofs.choice.chosen_at.Goals as goal
 
 pub returns : goal.returns
 returns c =
-    c.best.ensures
-    ∙ rw (c.candidate-5.ensures, c.candidate-4.ensures, c.candidate-3.ensures, c.candidate-2.ensures, c.candidate.ensures, c.interval-interval.ensures) (best-at _ _ _)
+    let five : length c.args.table.now.records ≡ 5 = search rules in
+    c.best.ensures ∙ rw (c.candidates.ensures, c.of.ensures) (best-at c.args.table.now.records c.args.now c.args.a five)

@@ -39,25 +39,25 @@ bounds₂ : {g : ℕ} {gain x i : ℤ} → gain ≡ pos g → g < 65_536 → Wit
 bounds₂ {gain = gain} e h w u = let g : Within 65_535 gain = rw e (gain-within h) in g ▸ w ▸ u ▸ end
 
 pub overflow_mul-gained-2 : goal.overflow_mul-gained-2
-overflow_mul-gained-2 c = asks (bounds c.args.k c.gain.ensures (omega arith) c.within-x.ensures.within c.pace.ensures c.within.ensures.within) (mul (mul (var 0) (var 1)) (var 2)) tt
+overflow_mul-gained-2 c = asks (bounds c.args.k c.from.ensures (omega arith) c.within-x.ensures.within c.pace.ensures c.within.ensures.within) (mul (mul (var 0) (var 1)) (var 2)) tt
 
 pub overflow_add-gained : goal.overflow_add-gained
-overflow_add-gained c = asks (bounds c.args.k c.gain.ensures (omega arith) c.within-x.ensures.within c.pace.ensures c.within.ensures.within) I tt
+overflow_add-gained c = asks (bounds c.args.k c.from.ensures (omega arith) c.within-x.ensures.within c.pace.ensures c.within.ensures.within) I tt
 
-pub overflow_mul-gain : goal.overflow_mul-gain
-overflow_mul-gain c =
+pub overflow_mul-from : goal.overflow_mul-from
+overflow_mul-from c =
     let u : Within 12_800_000_000 c.within-integral.result = omega (arith, limit-small c.args.limit.0) in
-    asks (bounds₂ c.gain-2.ensures (omega arith) c.within-x.ensures.within u) (mul (var 0) (var 1)) tt
+    asks (bounds₂ c.from-2.ensures (omega arith) c.within-x.ensures.within u) (mul (var 0) (var 1)) tt
 
-pub overflow_mul-gain-2 : goal.overflow_mul-gain-2
-overflow_mul-gain-2 c =
+pub overflow_mul-from-2 : goal.overflow_mul-from-2
+overflow_mul-from-2 c =
     let u : Within 12_800_000_000 c.within-integral.result = omega (arith, limit-small c.args.limit.0) in
-    asks (bounds₂ c.gain-2.ensures (omega arith) c.within-x.ensures.within u) (mul (mul (var 0) (var 1)) (lit (pos 128))) tt
+    asks (bounds₂ c.from-2.ensures (omega arith) c.within-x.ensures.within u) (mul (mul (var 0) (var 1)) (lit (pos 128))) tt
 
-pub overflow_add-gain : goal.overflow_add-gain
-overflow_add-gain c =
+pub overflow_add-from : goal.overflow_add-from
+overflow_add-from c =
     let u : Within 12_800_000_000 c.within-integral.result = omega (arith, limit-small c.args.limit.0) in
-    asks (bounds₂ c.gain-2.ensures (omega arith) c.within-x.ensures.within u) P tt
+    asks (bounds₂ c.from-2.ensures (omega arith) c.within-x.ensures.within u) P tt
 
 pub returns : goal.returns
 unfolding output_with
@@ -71,11 +71,11 @@ returns c =
     let taken : x ≡ held_offset a.offset.0 = rw (back fo) at c.within-x.ensures.value in
     let xw = c.within-x.ensures.within in
     let kept : c.within.result ≡ held_within 1_000_000_000_000_000 s.integral = rw (back fi) at c.within.ensures.value in
-    let b = bounds c.args.k c.gain.ensures (omega arith) xw c.pace.ensures c.within.ensures.within in
-    let e = rw (run b I tt, c.pace.ensures, c.gain.ensures, kept, c.limit_of-units.ensures) at c.within-integral.ensures.value in
+    let b = bounds c.args.k c.from.ensures (omega arith) xw c.pace.ensures c.within.ensures.within in
+    let e = rw (run b I tt, c.pace.ensures, c.from.ensures, kept, c.limit_of-units.ensures) at c.within-integral.ensures.value in
     let i : c.within-integral.result ≡ integral_with s x a.k limit = e ∙ integral-far s x a.k limit xw (omega arith) (limit-small a.limit.0) in
     let iw : Within 12_800_000_000 c.within-integral.result = omega (arith, limit-small a.limit.0) in
-    let d = rw (run (bounds₂ c.gain-2.ensures (omega arith) xw iw) P tt, c.gain-2.ensures, i, c.limit_of-units.ensures) at c.within-output.ensures.value in
+    let d = rw (run (bounds₂ c.from-2.ensures (omega arith) xw iw) P tt, c.from-2.ensures, i, c.limit_of-units.ensures) at c.within-output.ensures.value in
     let ow : Within limit c.within-output.result = rw c.limit_of-units.ensures at c.within-output.ensures.within in
     let o : c.whole_ppb.result ≡ output_with s x a.k limit = (rw (back (within-fits ow (omega (arith, limit-small a.limit.0)))) at c.whole_ppb.ensures.value) ∙ ap (half_to_even 128_000) d in
     let small : Within 100_000 c.whole_ppb.result = rw o (omega (arith, output-within s x a.k limit (min 100_000 (up a.limit.0)) refl)) in

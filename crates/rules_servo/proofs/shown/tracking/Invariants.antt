@@ -1,10 +1,6 @@
--- The offsets before i are passed.
-use Rattle.std.proofs.Common.{◌-◌, ◌≤◌}
+-- The offsets before x are passed.
 use Rattle.rules_servo.proofs.Spreads.{Passed}
 use Rattle.rules_servo.proofs.shown.tracking.Given as goal
 
-abbrev pub invariant-loop-i : goal.invariant-loop-i
-invariant-loop-i l = (l.i ≤ 10) × Passed l.offsets l.i l.totals
-
-abbrev pub decreases-loop-i : goal.decreases-loop-i
-decreases-loop-i l = 10 - l.i
+abbrev pub invariant-loop-x : goal.invariant-loop-x
+invariant-loop-x l = Passed l.x-items l.x-index l.sum l.squares

@@ -1,7 +1,7 @@
 -- `Given::settings` meets its contract: settings in their ranges are held as given.
+use Rattle.std.specs.Prelude.{Ok}
 use mathlib.Core.Path.{sym, ap, ◌∙◌}
 use Rattle.numbers.specs.Grounds.{first_of}
-use Rattle.rules_settings.specs.declared.Set.TheVariants.{Accepted}
 use Rattle.rules_settings.proofs.Narrowing.{as-set}
 use Rattle.rules_settings.proofs.Given.settings.Goals as goal
 
@@ -10,7 +10,7 @@ unfolding first_of
 returns-then-watch_fits c =
     let s = sym c.steering_fits.ensures ∙ c.if-steering_fits.true in
     let w = sym c.watch_fits.ensures ∙ c.if-watch_fits.true in
-    rw (c.narrowed.ensures, s, w) (ap Accepted (as-set c.args.self s w))
+    rw (c.narrowed.ensures, s, w) (ap Ok (as-set c.args.self s w))
 
 pub returns-else-watch_fits : goal.returns-else-watch_fits
 unfolding first_of

@@ -18,7 +18,7 @@ returns c =
     let y = c.args.offset -ℤ c.args.origin in
     let r : SFits w64 c.args.previous.reference = search rules in
     let later : le_z c.args.reference c.args.previous.reference ≡ false = rw (back c.ranges.reference, back r) at c.if-reference-previous.false in
-    let size : c.apart.result ≡ nat_abs y = rw (back c.ranges.offset, back c.ranges.origin) at c.apart.ensures in
+    let size : c.abs_diff.result ≡ nat_abs y = rw (back c.ranges.offset, back c.ranges.origin) at c.abs_diff.ensures in
     let f : SFits w32 y = second_fits y (omega (arith, size)) in
     rw (later, lt-leb 1_000_000_000 (nat_abs y) (omega (arith, size)))
     (rw (back c.ranges.reference, back c.ranges.offset, back c.ranges.origin, back (sfits_widen tt f), to_z-of_z f) at c.settle.ensures)

@@ -1,5 +1,6 @@
 -- `judge` meets its contract: stamps of 62 bits have a difference that fits.
-use mathlib.Core.Path.{◌≡◌, refl, sym, ◌∙◌}
+use Rattle.std.specs.Prelude.{Ok}
+use mathlib.Core.Path.{◌≡◌, refl, sym, ap, ◌∙◌}
 use mathlib.Core.Bool.{Bool, true, false, ◌||◌, true≢false}
 use mathlib.Core.List.{[], ◌∷◌}
 use Prim.Native.Nat.{◌<◌, ◌^◌}
@@ -14,6 +15,7 @@ use Rattle.numbers.proofs.Ring.{v, ◌⊖◌, fits_by}
 use Rattle.numbers.specs.Grounds.{first_of}
 use Rattle.rules_watch.specs.Rules.{outside_of, on_last}
 use Rattle.rules_watch.proofs.judging.judge.Goals as goal
+use Rattle.rules_watch.proofs.judging.judge.Goals.{then-outside-via-then-outside, then-outside-via-else-outside+then-outside-2}
 
 -- a stamp that is not outside
 inside : (z : ℤ) → outside_of z ≡ false → (dn z ≡ 0) × (up z < 2 ^ 62)
@@ -29,28 +31,27 @@ offset-fits c r p q = fits_by (v 0 ⊖ v 1) (c ∷ r ∷ []) (omega (arith, insi
 
 pub returns-then-outside : goal.returns-then-outside
 unfolding first_of
-returns-then-outside c =
-    let r : outside_of c.args.reference ≡ true = sym (rw (back c.ranges.reference) at c.outside.ensures) ∙ c.if-outside.true in
-    rw r
+returns-then-outside c = elim c.then-outside.branch [
+  | then-outside-via-then-outside w ↦
+      let r : outside_of c.args.reference ≡ true = sym (rw (back c.ranges.reference) at c.outside.ensures) ∙ w.if-outside.true in
+      rw r
+  | then-outside-via-else-outside+then-outside-2 w ↦
+      let r : outside_of c.args.reference ≡ false = sym (rw (back c.ranges.reference) at c.outside.ensures) ∙ w.if-outside.false in
+      let t : outside_of c.args.clock ≡ true = sym (rw (back c.ranges.clock) at w.outside-else-outside.ensures) ∙ w.if-outside-2.true in
+      rw (r, t)
+]
 
-pub returns-then-outside-2 : goal.returns-then-outside-2
-unfolding first_of
-returns-then-outside-2 c =
-    let r : outside_of c.args.reference ≡ false = sym (rw (back c.ranges.reference) at c.outside.ensures) ∙ c.if-outside.false in
-    let t : outside_of c.args.clock ≡ true = sym (rw (back c.ranges.clock) at c.outside-2.ensures) ∙ c.if-outside-2.true in
-    rw (r, t)
-
-pub returns-then-empty : goal.returns-then-empty
+pub returns-in-None : goal.returns-in-None
 unfolding first_of on_last
-returns-then-empty c =
+returns-in-None c =
     let r : outside_of c.args.reference ≡ false = sym (rw (back c.ranges.reference) at c.outside.ensures) ∙ c.if-outside.false in
-    let t : outside_of c.args.clock ≡ false = sym (rw (back c.ranges.clock) at c.outside-2.ensures) ∙ c.if-outside-2.false in
-    simp (r, t, c.if-empty.true, back c.ranges.clock, back c.ranges.reference, back (offset-fits c.args.clock c.args.reference t r))
+    let t : outside_of c.args.clock ≡ false = sym (rw (back c.ranges.clock) at c.outside-else-outside.ensures) ∙ c.if-outside-2.false in
+    simp (r, t, c.in-None.is, back c.ranges.clock, back c.ranges.reference, back (offset-fits c.args.clock c.args.reference t r))
 
-pub returns : goal.returns
+pub returns-in-Some : goal.returns-in-Some
 unfolding first_of on_last
-returns c =
+returns-in-Some c =
     let r : outside_of c.args.reference ≡ false = sym (rw (back c.ranges.reference) at c.outside.ensures) ∙ c.if-outside.false in
-    let t : outside_of c.args.clock ≡ false = sym (rw (back c.ranges.clock) at c.outside-2.ensures) ∙ c.if-outside-2.false in
-    rw (r, t, c.if-empty.false)
-    (rw (back c.ranges.clock, back c.ranges.reference, back c.ranges.origin, back (offset-fits c.args.clock c.args.reference t r)) at c.follow.ensures)
+    let t : outside_of c.args.clock ≡ false = sym (rw (back c.ranges.clock) at c.outside-else-outside.ensures) ∙ c.if-outside-2.false in
+    rw (r, t, c.in-Some.is)
+    (ap Ok (rw (back c.ranges.clock, back c.ranges.reference, back c.ranges.origin, back (offset-fits c.args.clock c.args.reference t r)) at c.follow.ensures))

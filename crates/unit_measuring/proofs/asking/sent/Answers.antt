@@ -8,20 +8,20 @@ use Rattle.unit_measuring.specs.Barring.{own_due}
 use Rattle.unit_measuring.proofs.Barring.{unless-told}
 use Rattle.unit_measuring.proofs.asking.sent.Goals as goal
 
-pub returns-in-Barred : goal.returns-in-Barred
+pub returns-in-Err : goal.returns-in-Err
 unfolding sends
-returns-in-Barred c =
+returns-in-Err c =
     let core = c.args.core in
     rw
     (unless-told core.settings (with_now c.args.now (stays_of core)) (progress_of core c.args.servo) core.domain.run.exchange
     (sent c.args.sequence c.args.t3) (own_due (stays_of core) c.args.now (field_of c.args.t3)) refl refl refl)
-    (rw (sym (rw c.field.ensures at c.in-Barred.ensures)) c.refuse.ensures)
+    (rw (sym (rw c.field.ensures at c.in-Err.ensures)) c.refuse.ensures)
 
-pub returns-in-Clear : goal.returns-in-Clear
+pub returns-in-Ok : goal.returns-in-Ok
 unfolding sends
-returns-in-Clear c =
+returns-in-Ok c =
     let core = c.args.core in
     rw
     (unless-told core.settings (with_now c.args.now (stays_of core)) (progress_of core c.args.servo) core.domain.run.exchange
     (sent c.args.sequence c.args.t3) (own_due (stays_of core) c.args.now (field_of c.args.t3)) refl refl refl)
-    (rw (sym (rw c.field.ensures at c.in-Clear.ensures)) (rw c.sent.ensures at c.exchanged.ensures))
+    (rw (sym (rw c.field.ensures at c.in-Ok.ensures)) (rw (c.sent-answer.ensures.answer, c.sent-answer.ensures.exchange) at c.exchanged.ensures))

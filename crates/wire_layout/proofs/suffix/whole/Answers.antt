@@ -7,6 +7,9 @@ use Rattle.wire_layout.proofs.suffix.whole.Goals as goal
 pub loop-n-init : goal.loop-n-init
 loop-n-init c = (omega arith, start c.args.t.now)
 
+pub overflow_add-at : goal.overflow_add-at
+overflow_add-at c = let w = c.in-Whole in omega (arith, fits c.args.t.now c.loop-n.at w.field-0 w.n (sym w.ensures))
+
 pub overflow_add-at-in-Whole : goal.overflow_add-at-in-Whole
 overflow_add-at-in-Whole c = let w = c.in-Whole in omega (arith, fits c.args.t.now c.loop-n.at w.field-0 w.n (sym w.ensures))
 

@@ -1,10 +1,12 @@
 -- `got` meets its contract: a clear ruling tells that the octets are there, and each end is one law of proofs/ByKind.
-use Rattle.std.proofs.Common.{ℕ, List, ◌≤◌, length, sym, arith}
+use Rattle.std.proofs.Common.{◌≡◌, ℕ, List, ◌≤◌, length, sym, arith, rules}
 use Rattle.wire_layout.specs.Kinds.{fixed_length_of}
 use Rattle.wire_layout.specs.Positions.{kind_in}
 use Rattle.wire_layout.proofs.Known.{Known, known, room-44}
 use Rattle.wire_layout.proofs.Cases.{Sized}
 use Rattle.wire_reader.proofs.Rulings.{opened}
+use Rattle.rules_masters.specs.Records.{no_offer}
+use Rattle.door_words.specs.Messages.{no_port}
 use Rattle.door_words.proofs.ByKind.{of-delay-resp, of-announce, of_other}
 use Rattle.door_words.proofs.messages.MessageWords.got.Goals as goal
 
@@ -38,7 +40,8 @@ port_at-requires c =
 
 pub returns-then-kind-eq-KIND : goal.returns-then-kind-eq-KIND
 returns-then-kind-eq-KIND c =
-    rw (c.no_offer.ensures, c.port_at.ensures, c.u16_at-to.ensures, c.header_of-header.ensures, c.stamp_at-stamp.ensures)
+    let o : c.default.result ≡ no_offer = search rules in
+    rw (o, c.port_at.ensures, c.u16_at-to.ensures, c.header_of-header.ensures, c.stamp_at-stamp.ensures)
     (sym (of-delay-resp c.args.s.now c.if-kind-eq-KIND.true))
 
 pub offer_of-requires : goal.offer_of-requires
@@ -49,11 +52,14 @@ offer_of-requires c =
 
 pub returns-then-kind-eq-KIND-2 : goal.returns-then-kind-eq-KIND-2
 returns-then-kind-eq-KIND-2 c =
-    rw (c.offer_of.ensures, c.nobody.ensures, c.u16_at-to.ensures, c.header_of-header.ensures, c.stamp_at-stamp.ensures)
+    let p : c.default-then-kind-eq-KIND-2.result ≡ no_port = search rules in
+    rw (c.offer_of.ensures, p, c.u16_at-to.ensures, c.header_of-header.ensures, c.stamp_at-stamp.ensures)
     (sym (of-announce c.args.s.now c.if-kind-eq-KIND-2.true))
 
 pub returns : goal.returns
 returns c =
     let s = c.args.s.now in
-    rw (c.no_offer-2.ensures, c.nobody-2.ensures, c.u16_at-to.ensures, c.header_of-header.ensures, c.stamp_at-stamp.ensures)
+    let o : c.default-3.result ≡ no_offer = search rules in
+    let p : c.default-2.result ≡ no_port = search rules in
+    rw (o, p, c.u16_at-to.ensures, c.header_of-header.ensures, c.stamp_at-stamp.ensures)
     (sym (of_other s (kind-known s (opened s c.requires).sized) c.if-kind-eq-KIND.false c.if-kind-eq-KIND-2.false))

@@ -23,8 +23,8 @@ loop-i-preserved c =
     let g : SFits w32 (at o (i + 1)) = search rules in
     let e : c.opposite.result ≡ opposite_signs (at o i) (at o (i + 1)) = rw (to_z-of_z f, to_z-of_z g) at c.opposite.ensures in
     elim c.if-opposite.branch [
-      | then-opposite w ↦ (search rules, omega arith, let n = rw (sym e ∙ w.if-opposite.true) at next in omega arith)
-      | else-opposite w ↦ (search rules, omega arith, let n = rw (sym e ∙ w.if-opposite.false) at next in omega arith)
+      | then-opposite w ↦ (omega arith, let n = rw (sym e ∙ w.if-opposite.true) at next in omega arith)
+      | else-opposite w ↦ (omega arith, let n = rw (sym e ∙ w.if-opposite.false) at next in omega arith)
     ]
 
 pub returns : goal.returns
@@ -33,5 +33,5 @@ returns c =
     let e : c.loop-i.i ≡ 9 = omega arith in
     let long : length o ≡ 10 = search rules in
     let z = opposites-last o 9 long in
-    let i : c.loop-i.found + opposites_in (drop 9 o) ≡ opposites_in o = rw e at c.loop-i.invariant.2 in
+    let i : c.loop-i.found + opposites_in (drop 9 o) ≡ opposites_in o = rw e at c.loop-i.invariant.1 in
     omega arith

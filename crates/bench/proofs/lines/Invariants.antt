@@ -1,9 +1,0 @@
--- The loop of `lines` goes up through the block.
-use Rattle.std.proofs.Common.{length, ◌-◌}
-use Rattle.bench.proofs.lines.Given as goal
-
-abbrev pub invariant-loop-i : goal.invariant-loop-i
-invariant-loop-i l = Unit
-
-abbrev pub decreases-loop-i : goal.decreases-loop-i
-decreases-loop-i l = length l.block - l.i

@@ -1,8 +1,0 @@
--- The loop of `run` counts its turns down.
-use Rattle.bench.proofs.run.Given as goal
-
-abbrev pub invariant-loop-turns : goal.invariant-loop-turns
-invariant-loop-turns l = Unit
-
-abbrev pub decreases-loop-turns : goal.decreases-loop-turns
-decreases-loop-turns l = l.turns

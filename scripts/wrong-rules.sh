@@ -33,7 +33,7 @@ try() {
 }
 
 try sequence_of_65535 unit story \
-  unit_measuring/src/asking.rt 'core.domain.sequence.wrapping_add(1)' '((u32::from(core.domain.sequence) + 1) % 65_535) as u16' \
+  unit_measuring/src/asking.rt 'core.domain.sequence.wrapping_add(1)' '((core.domain.sequence as u32 + 1) % 65_535) as u16' \
   unit_measuring/specs/Asking.antt '(k.sequence + 1) % 2 ^ 16' '(k.sequence + 1) % 65535'
 try one_step_correction_twice rules_exchange story_exchange \
   rules_exchange/src/halves.rt 'correction,

@@ -8,9 +8,8 @@ use lib.Dec.{eqb}
 use lib.IntN.{ℤ}
 use lib.ListN.{length}
 use Rattle.numbers.specs.declared.stamp.Stamp.{Stamp}
-use Rattle.numbers.specs.Grounds.{Ruling}
+use Rattle.numbers.specs.Grounds.{Ruling, answer_by, first_of}
 use Rattle.rules_exchange.specs.Events.{Answer as Tells}
-use Rattle.numbers.specs.Grounds.{first_of}
 use Rattle.numbers.specs.Orders.{number_of, of_exchange, of_time}
 use Rattle.wire_layout.specs.declared.message.Message.{Message}
 use Rattle.wire_layout.specs.Reading.{read_of}
@@ -49,8 +48,8 @@ use Rattle.door_words.specs.Answers.{refusing}
 use Rattle.door_core.specs.declared.receiving.Received.{Received}
 use Rattle.door_core.specs.declared.receiving.Received.TheVariants.{Announce, Exchange as Exchanged}
 use Rattle.door_core.specs.Receiving.{Sorted, received_by}
-use Rattle.door_choosing.specs.Choosing.{held_by, held_of, held_unless, untabled_of}
-use Rattle.door_measuring.specs.Measuring.{told_by, unless_told}
+use Rattle.door_choosing.specs.Choosing.{held_by, held_of, untabled_of}
+use Rattle.door_measuring.specs.Measuring.{told_by}
 use Rattle.door_measuring.specs.Asking.{requested_by}
 use Rattle.door_loop.specs.Lending.{Lent, says, unit_with, told_in, heard_in, lent_by, chosen_in, placed_in, seat_in, seated_in, passed_in, open_in, received_in, receive_of, time_of, unit_asking, sent_of, ticked_in, tick_of}
 use Rattle.door_loop.specs.Loop.{Parts, Table, own, stray, lends}
@@ -92,7 +91,7 @@ module _ (u : UnitWords) (v : Servo) (w : Watch) where
     kept-told now (Err n) x = kept-says (refusing (number_of n))
     kept-told now (Ok said) x = λ h. absurd (never (sym (said-speaks said) ∙ h))
 
-    kept-unless : (now : ℕ) (r : Ruling) (a : Tells) (x : Exchange) → Kept (told_in u v t w (unless_told r (told_by u.state now a x)))
+    kept-unless : (now : ℕ) (r : Ruling) (a : Tells) (x : Exchange) → Kept (told_in u v t w (answer_by Err (told_by u.state now a x) r))
     kept-unless now (Ok _) a x = kept-told now a x
     kept-unless now (Err n) a x = kept-says (refusing (number_of n))
 
@@ -105,7 +104,7 @@ module _ (u : UnitWords) (v : Servo) (w : Watch) where
     kept-seated m now (Err n) = kept-says (refusing (number_of n))
     kept-seated m now (Ok p) = λ h. absurd (not-held (placed_in t m now p) u.state now (chosen_in u (placed_in t m now p) now) h)
 
-    kept-timed : (now : ℕ) (r : Ruling) (c : Chosen) → Kept (passed_in u v t w (held_unless r (held_of u.state now c)))
+    kept-timed : (now : ℕ) (r : Ruling) (c : Chosen) → Kept (passed_in u v t w (answer_by Err (Ok (held_of u.state now c)) r))
     kept-timed now (Ok _) c = λ h. absurd (not-held t u.state now c h)
     kept-timed now (Err n) c = kept-says (refusing (number_of n))
 

@@ -11,12 +11,11 @@ use lib.Dec.{leb}
 use lib.IntN.{pos}
 use lib.ListN.{length, length-drop, length-append}
 use Rattle.numbers.specs.declared.refusal.Refusal.TheVariants.{NotReady, Settings as Outside}
-use Rattle.numbers.specs.Grounds.{Ruling}
+use Rattle.numbers.specs.Grounds.{Ruling, answer_by, first_of}
 use Rattle.wire_layout.specs.Reading.{Read}
 use Rattle.rules_watch.specs.Rules.{Outcome, Drift}
 use Rattle.unit_handing.specs.Handing.{Asked}
 use Rattle.numbers.specs.declared.stamp.Stamp.{Stamp}
-use Rattle.numbers.specs.Grounds.{first_of}
 use Rattle.numbers.specs.Orders.{none_due, due_with, of_handing, of_time}
 use Rattle.wire_layout.specs.Reading.{read_of}
 use Rattle.rules_masters.specs.declared.table.Table.{Table as Masters}
@@ -39,7 +38,7 @@ use Rattle.unit_core.specs.Effects.{Stays, Effect, keeps, goes, takes, wipes, st
 use Rattle.unit_ticking.specs.Ticking.{ticks, line_by}
 use Rattle.unit.specs.declared.Unit.{Unit}
 use Rattle.unit.specs.Calls.{watch_by, applied, unit_effect, unit_table, step_of}
-use Rattle.unit_handing.specs.Handing.{Handed, receive, request, sent, time, reset, tick, line, show, unless_barred, is_delay_req, is_stray, message_asked, read_asked, time_asked, asked_of, stepped_by, served_of, served_all}
+use Rattle.unit_handing.specs.Handing.{Handed, receive, request, sent, time, reset, tick, line, show, is_delay_req, is_stray, message_asked, read_asked, time_asked, asked_of, stepped_by, served_of, served_all}
 use Rattle.unit.proofs.Fair.{Fair}
 use Rattle.unit.proofs.Fairly.{most, fair}
 use Rattle.door_loop.specs.Loop.{Table, counted_in}
@@ -105,7 +104,7 @@ module _ (c : Unit) (k : ℕ) (f : Few c.core.settings.watch k c.watch) where
   few-call Show = few-by Show (fair c Show)
 
   -- what is barred before the unit is asked changes nothing
-  few-ruled : (v : Ruling) (call : Call) → Few t k (step_of c call).unit.watch → Few t k (stepped_by c (unless_barred v call)).unit.watch
+  few-ruled : (v : Ruling) (call : Call) → Few t k (step_of c call).unit.watch → Few t k (stepped_by c (answer_by Err (Ok call) v)).unit.watch
   few-ruled (Ok _) call g = g
   few-ruled (Err r) call g = f
 

@@ -8,10 +8,9 @@ use native.Mathlib.Omega.{arith}
 use lib.ListN.{length}
 use Rattle.numbers.specs.declared.stamp.Stamp.{Stamp}
 use Rattle.numbers.specs.declared.refusal.Refusal.TheVariants.{Settings as Outside}
-use Rattle.numbers.specs.Grounds.{Ruling}
+use Rattle.numbers.specs.Grounds.{Ruling, answer_by, first_of}
 use Rattle.wire_layout.specs.Reading.{Read}
 use Rattle.unit_handing.specs.Handing.{Asked as Asking}
-use Rattle.numbers.specs.Grounds.{first_of}
 use Rattle.numbers.specs.Orders.{none_due, due_with, of_handing, of_time}
 use Rattle.wire_layout.specs.Reading.{read_of}
 use Rattle.rules_masters.specs.declared.table.Table.{Table}
@@ -32,7 +31,7 @@ use Rattle.unit_core.specs.Answers.{is_refusal, wipes_of}
 use Rattle.unit.specs.declared.Unit.{Unit}
 use Rattle.unit.specs.declared.Stepped.{Stepped}
 use Rattle.unit.specs.Calls.{applied, unit_effect, unit_table, step_of}
-use Rattle.unit_handing.specs.Handing.{Handed, receive, request, sent, time, reset, tick, line, show, unless_barred, is_delay_req, is_stray, message_asked, read_asked, time_asked, asked_of, stepped_by, served_of}
+use Rattle.unit_handing.specs.Handing.{Handed, receive, request, sent, time, reset, tick, line, show, is_delay_req, is_stray, message_asked, read_asked, time_asked, asked_of, stepped_by, served_of}
 use Rattle.unit.specs.Machine.{is_wipe}
 use Rattle.unit.proofs.Refusals.{never}
 use Rattle.unit.proofs.Faults.{faulty-lasts}
@@ -94,7 +93,7 @@ module _ (c : Unit) where
   Carried (Err r) now = ◌≡◌ {A = ℕ} 0 0
   Carried (Ok call) now = now_of call c.core.now ≡ now
 
-  carried-by : (v : Ruling) (call : Call) → Carried (unless_barred v call) (now_of call c.core.now)
+  carried-by : (v : Ruling) (call : Call) → Carried (answer_by Err (Ok call) v) (now_of call c.core.now)
   carried-by (Ok _) call = refl
   carried-by (Err r) call = refl
 
@@ -125,7 +124,7 @@ module _ (c : Unit) where
   abbrev Faulty : Stepped → Type 0
   Faulty d = d.unit.core.domain.faulty ≡ true
 
-  faulty-ruled : c.core.domain.faulty ≡ true → (v : Ruling) (call : Call) → Faulty (step_of c call) → Faulty (stepped_by c (unless_barred v call))
+  faulty-ruled : c.core.domain.faulty ≡ true → (v : Ruling) (call : Call) → Faulty (step_of c call) → Faulty (stepped_by c (answer_by Err (Ok call) v))
   faulty-ruled f (Ok _) call h = h
   faulty-ruled f (Err r) call h = f
 

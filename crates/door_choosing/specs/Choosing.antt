@@ -2,7 +2,7 @@
 use Rattle.std.specs.Prelude.{ℕ, true, false, cond, eqb, Ok, Err, Result, Option, List, map, length, get_or, set}
 use Rattle.numbers.specs.declared.refusal.Refusal.{Refusal}
 use Rattle.numbers.specs.declared.refusal.Refusal.TheVariants.{Settings as Outside}
-use Rattle.numbers.specs.Grounds.{Ruling, first_of}
+use Rattle.numbers.specs.Grounds.{first_of, answer_by}
 use Rattle.numbers.specs.Orders.{number_of, of_time}
 use Rattle.wire_layout.specs.declared.message.Message.{Message}
 use Rattle.wire_layout.specs.Kinds.{stamp_in}
@@ -17,7 +17,7 @@ use Rattle.rules_masters.specs.declared.standing.Standing.{Standing}
 use Rattle.rules_masters.specs.Records.{interval_of, fresh_record, entered_of, renewed_of}
 use Rattle.rules_masters.specs.Holding.{decision_of, wipes_of}
 use Rattle.rules_masters.specs.Admitting.{Answer, standing_of}
-use Rattle.rules_masters.specs.Inner.{barred_of, place_in, seat_unless, seat_of, candidate_of, best_of}
+use Rattle.rules_masters.specs.Inner.{barred_of, place_in, seat_of, candidate_of, best_of}
 use Rattle.unit_choosing.specs.Choosing.{time_due}
 use Rattle.door_records.specs.declared.unit.SettingsWords.{SettingsWords}
 use Rattle.door_records.specs.declared.unit.StateWords.{StateWords}
@@ -48,7 +48,7 @@ candidates_of l now span = map (λ r. candidate_of now span (record_in r)) l
 
 -- refused without a look into the table; or by what is in it, or a place of it
 abbrev pub seat_by : SettingsWords → StateWords → List MasterWords → Announce → ℕ → Answer
-seat_by s t l m now = seat_unless (barred_of m s.domain (own_in s) t.now now) (seat_of (standings_of l m now (interval_of s.announce)))
+seat_by s t l m now = answer_by Err (seat_of (standings_of l m now (interval_of s.announce))) (barred_of m s.domain (own_in s) t.now now)
 
 -- the record that is to be stored at the place
 abbrev pub fresh_master : MasterWords
@@ -88,12 +88,8 @@ abbrev pub announced_of : SettingsWords → StateWords → List MasterWords → 
 announced_of s t l m now = cond (eqb (length l) 5) (seated_of s t l (announce_in m) now (seat_by s t l (announce_in m) now)) (Err Outside)
 
 -- the bare time call
-abbrev pub held_unless : Ruling → Held → Result Held Refusal
-held_unless (Err n) q = Err n
-held_unless (Ok _) q = Ok q
-
 abbrev pub timed_of : SettingsWords → StateWords → List MasterWords → ℕ → Result Held Refusal
-timed_of s t l now = held_unless (first_of (of_time (time_due t.now now))) (held_of t now (best_in s l now))
+timed_of s t l now = answer_by Err (Ok (held_of t now (best_in s l now))) (first_of (of_time (time_due t.now now)))
 
 abbrev pub passed_of : SettingsWords → StateWords → List MasterWords → ℕ → Result Held Refusal
 passed_of s t l now = cond (eqb (length l) 5) (timed_of s t l now) (Err Outside)

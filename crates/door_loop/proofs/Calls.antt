@@ -7,10 +7,9 @@ use Prim.Native.Nat.{ℕ}
 use lib.IntN.{ℤ}
 use lib.ListN.{length}
 use Rattle.numbers.specs.declared.stamp.Stamp.{Stamp}
-use Rattle.numbers.specs.Grounds.{Ruling}
+use Rattle.numbers.specs.Grounds.{Ruling, answer_by, first_of}
 use Rattle.rules_exchange.specs.Events.{Answer as Tells}
 use Rattle.rules_watch.specs.Rules.{Drift}
-use Rattle.numbers.specs.Grounds.{first_of}
 use Rattle.numbers.specs.Orders.{of_exchange}
 use Rattle.wire_layout.specs.declared.message.Header.{Header}
 use Rattle.wire_layout.specs.declared.message.Body.{Body}
@@ -41,7 +40,7 @@ use Rattle.door_records.specs.Unit.{core_in, settings_in, exchange_in}
 use Rattle.door_records.proofs.Backs.{exchange-back}
 use Rattle.door_words.specs.Answers.{answer_words, drift_words}
 use Rattle.door_measuring.specs.Asking.{requested_by}
-use Rattle.door_measuring.specs.Measuring.{Telling, told_by, unless_told, spoken_told, sent_told}
+use Rattle.door_measuring.specs.Measuring.{Telling, told_by, spoken_told, sent_told}
 use Rattle.door_loop.specs.Lending.{told_in, ticked_in}
 use Rattle.door_loop.specs.Loop.{Parts, unit_in, Found, from_lent, from_turned, lends, Meant, means}
 
@@ -101,7 +100,7 @@ module _ (p : Parts) where
   told_same now (Ok said) x = said_same now x said
 
   pub unless-same : (now : ℕ) (v : Ruling) (a : Answered)
-      → exchanged (unless_told v (told_by u.state now a.answer a.exchange)) ≡ by (unless v (exchanges set (with_now now stays) progress a))
+      → exchanged (answer_by Err (told_by u.state now a.answer a.exchange) v) ≡ by (unless v (exchanges set (with_now now stays) progress a))
   unless-same now (Ok _) a = told_same now a.answer a.exchange
   unless-same now (Err n) a = refl
 
@@ -117,7 +116,7 @@ module _ (p : Parts) where
       ∙ ap by (sym (unless-told set (with_now now stays) progress held (leaves sequence t3) (own_due stays now (field_of t3)) refl refl refl))
 
   pub heard-same : (now : ℕ) (t2 : Stamp) (h : Header) (b : Body)
-      → exchanged (unless_told (first_of (message_grounds set stays now t2 h b)) (told_by u.state now (handed held set.own t2 h b).answer (handed held set.own t2 h b).exchange))
+      → exchanged (answer_by Err (told_by u.state now (handed held set.own t2 h b).answer (handed held set.own t2 h b).exchange) (first_of (message_grounds set stays now t2 h b)))
       ≡ by (unless (first_of (message_grounds set stays now t2 h b)) (exchanges set (with_now now stays) progress (handed held set.own t2 h b)))
   heard-same now t2 h b = unless-same now (first_of (message_grounds set stays now t2 h b)) (handed held set.own t2 h b)
 

@@ -6,8 +6,7 @@ use mathlib.Core.List.{List, [], ◌∷◌, map}
 use Prim.Native.Nat.{ℕ}
 use lib.ListN.{length, get_or, get_or-map, set, length-map, length-set}
 use Rattle.std.proofs.lemmas.List.{map-set}
-use Rattle.numbers.specs.Grounds.{Ruling}
-use Rattle.numbers.specs.Grounds.{first_of}
+use Rattle.numbers.specs.Grounds.{Ruling, answer_by, first_of}
 use Rattle.numbers.specs.Orders.{of_time}
 use Rattle.wire_layout.specs.declared.message.Message.{Message}
 use Rattle.rules_masters.specs.declared.chosen.Chosen.{Chosen}
@@ -18,7 +17,7 @@ use Rattle.rules_masters.specs.declared.admission.Entry.TheVariants.{Renewed, En
 use Rattle.rules_masters.specs.declared.table.Table.{Table}
 use Rattle.rules_masters.specs.Admitting.{Answer, Admitted, standing_of, admitted_by}
 use Rattle.rules_masters.specs.Holding.{chosen_at, same_master_of}
-use Rattle.rules_masters.specs.Inner.{barred_of, seat_unless, seat_of, settled_of, candidate_of, best_of}
+use Rattle.rules_masters.specs.Inner.{barred_of, seat_of, settled_of, candidate_of, best_of}
 use Rattle.rules_masters.specs.Records.{fresh_record, interval_of, renewed_of, entered_of}
 use Rattle.rules_masters.proofs.Candidates.{best-at}
 use Rattle.rules_masters.proofs.Standings.{admitted-by-seat}
@@ -29,7 +28,7 @@ use Rattle.door_records.specs.declared.masters.MasterWords.{MasterWords}
 use Rattle.door_records.specs.Unit.{chosen_in as master_in}
 use Rattle.door_records.specs.Masters.{record_in, master_words}
 use Rattle.door_records.proofs.Backs.{chosen-back}
-use Rattle.door_choosing.specs.Choosing.{announce_in, standings_of, fresh_master, held_by, held_of, held_unless, timed_of}
+use Rattle.door_choosing.specs.Choosing.{announce_in, standings_of, fresh_master, held_by, held_of, timed_of}
 use Rattle.door_loop.specs.Lending.{chosen_in, lent_by, seated_in, passed_in}
 use Rattle.door_loop.specs.Lending as places
 use Rattle.door_loop.specs.Loop.{Parts, from_lent, Meant}
@@ -106,7 +105,7 @@ module _ (p : Parts) where
 
     -- and by the refusals that need no table
     ruled-same : (v : Ruling) (a : Answer)
-        → meant_in (from_lent (seated_in (u p) p.servo p.table p.watch m now (seat_unless v a))) ≡ after (admitted_by v table (settled_of a table announced now))
+        → meant_in (from_lent (seated_in (u p) p.servo p.table p.watch m now (answer_by Err a v))) ≡ after (admitted_by v table (settled_of a table announced now))
     ruled-same (Ok _) a = seated-same a
     ruled-same (Err n) a = refl
 
@@ -126,7 +125,7 @@ module _ (p : Parts) where
   passed-same five now = go (first_of (of_time (time_due (u p).state.now now)))
     where
       go : (v : Ruling)
-          → meant_in (from_lent (passed_in (u p) p.servo p.table p.watch (held_unless v (held_of (u p).state now (chosen_in (u p) p.table now)))))
+          → meant_in (from_lent (passed_in (u p) p.servo p.table p.watch (answer_by Err (Ok (held_of (u p).state now (chosen_in (u p) p.table now))) v)))
           ≡ by p (unless v (chooses (settled p) (stays p) (progress p) (c p).table now))
       go (Ok _) = chose-same p.table now five
       go (Err n) = refl

@@ -2,9 +2,8 @@
 use Rattle.std.specs.Prelude.{ℕ, cond, Ok, Err, Result}
 use Rattle.numbers.specs.declared.refusal.Refusal.{Refusal}
 use Rattle.numbers.specs.declared.stamp.Stamp.{Stamp}
-use Rattle.numbers.specs.Grounds.{Ruling}
+use Rattle.numbers.specs.Grounds.{answer_by, first_of}
 use Rattle.rules_exchange.specs.Events.{Answer}
-use Rattle.numbers.specs.Grounds.{first_of}
 use Rattle.numbers.specs.Orders.{of_exchange}
 use Rattle.wire_layout.specs.declared.message.Header.{Header}
 use Rattle.wire_layout.specs.declared.message.Body.{Body}
@@ -56,10 +55,6 @@ told_by t now (Err n) x = Err n
 told_by t now (Ok said) x = Ok (spoken_told t now x said)
 
 -- by the unit's refusals, or the exchange's answer
-abbrev pub unless_told : Ruling → Telling → Telling
-unless_told (Err n) q = Err n
-unless_told (Ok tt) q = q
-
 module _ (u : UnitWords) where
   abbrev pub handed_told : ℕ → Stamp → Header → Body → Telling
   handed_told now t2 header body =
@@ -67,12 +62,14 @@ module _ (u : UnitWords) where
       (handed (exchange_in u.halves u.delays) (own_in u.settings) t2 header body).exchange
 
   abbrev pub heard_told : Message → ℕ → Stamp → Telling
-  heard_told m now t2 = unless_told (first_of (message_grounds (settings_in u.settings) (stays_of (core_in u)) now t2 m.header m.body)) (handed_told now t2 m.header m.body)
+  heard_told m now t2 =
+      answer_by Err (handed_told now t2 m.header m.body) (first_of (message_grounds (settings_in u.settings) (stays_of (core_in u)) now t2 m.header m.body))
 
   abbrev pub sent_told : ℕ → ℕ → Stamp → Telling
   sent_told now sequence t3 =
-      unless_told (first_of (of_exchange (own_due (stays_of (core_in u)) now (field_of t3))))
+      answer_by Err
       (told_by u.state now (told (exchange_in u.halves u.delays) (sent sequence t3)).answer (told (exchange_in u.halves u.delays) (sent sequence t3)).exchange)
+      (first_of (of_exchange (own_due (stays_of (core_in u)) now (field_of t3))))
 
 -- the servo: a wipe restores it, an accepted offset steers, else it is as it was
 abbrev pub servo_after : SettingsWords → Servo → Said → Servo

@@ -12,10 +12,9 @@ use Rattle.std.proofs.lemmas.List.{get_or-map}
 use borrow.Author.Tests.{lt-ltb, ltb-true, ltb-false, le-leb, lt-leb}
 use Rattle.numbers.specs.declared.refusal.Refusal.{Refusal}
 use Rattle.numbers.specs.declared.refusal.Refusal.TheVariants.{Repeat, Full}
-use Rattle.numbers.specs.Grounds.{Ruling}
+use Rattle.numbers.specs.Grounds.{Ruling, answer_by, first_of}
 use Rattle.rules_masters.specs.declared.admission.Entry.TheVariants.{Renewed, Entered}
 use Rattle.numbers.specs.Orders.{of_announce}
-use Rattle.numbers.specs.Grounds.{first_of}
 use Rattle.numbers.proofs.Grounds.{or_else}
 use Rattle.wire_layout.specs.declared.message.Port.{Port}
 use Rattle.rules_masters.specs.declared.record.Announce.{Announce}
@@ -25,7 +24,7 @@ use Rattle.rules_masters.specs.declared.standing.Standing.{Standing}
 use Rattle.rules_masters.specs.Records.{interval_of, live_of, known_of, fresh_record, entered_of, renewed_of}
 use Rattle.rules_masters.specs.Places.{place_of, count_of}
 use Rattle.rules_masters.specs.Admitting.{Answer, Admitted, is_repeat, standing_of, home, is_known, free, is_full, table_due, standings_in, accepted_of, admitted_by, admitted_of}
-use Rattle.rules_masters.specs.Inner.{barred_of, seated_of, seat_unless, seat_of, settled_of}
+use Rattle.rules_masters.specs.Inner.{barred_of, seated_of, seat_of, settled_of}
 use Rattle.rules_masters.proofs.Barring.{two-parts}
 use Rattle.rules_masters.proofs.Placing.{room, no_room, absent}
 
@@ -119,7 +118,7 @@ module _ (t : Table) (m : Announce) (interval now : ℕ) where
       L = standings_in t.records m interval now
 
       by : (v : Ruling) (k : Bool)
-          → settled_of (seat_unless v (cond k (Ok (Renewed (home L))) (Ok (Entered (free L))))) t m now
+          → settled_of (answer_by Err (cond k (Ok (Renewed (home L))) (Ok (Entered (free L)))) v) t m now
           ≡ admitted_by v t
           (cond k
           (record { answer = Ok (Renewed (home L)); table = record { records = set t.records (home L) (renewed_of (get_or t.records (home L) fresh_record) m now) } })

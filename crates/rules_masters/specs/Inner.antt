@@ -2,7 +2,7 @@
 use Rattle.std.specs.Prelude.{ℕ, Bool, true, cond, List, [], ◌∷◌, eqb, get_or, set, Ok, Err, Option, Some, None}
 use Rattle.std.specs.List.{filter_map}
 use Rattle.std.proofs.Math.Option.{Option as Chance, none, some}
-use Rattle.numbers.specs.Grounds.{Ruling, first_of}
+use Rattle.numbers.specs.Grounds.{Ruling, first_of, answer_by}
 use Rattle.numbers.specs.Orders.{none_due, of_announce}
 use Rattle.wire_layout.specs.declared.message.Port.{Port}
 use Rattle.rules_masters.specs.declared.record.Announce.{Announce}
@@ -35,12 +35,8 @@ place_in (Renewed place) = place
 place_in (Entered place) = place
 
 -- what five standings come to: the place of the sender's live record; or it has none, and takes the first place that is not live
-abbrev pub seat_unless : Ruling → Answer → Answer
-seat_unless (Err r) place = Err r
-seat_unless (Ok _) place = place
-
 unfoldable pub seat_of : List Standing → Answer
-seat_of l = seat_unless (first_of (of_announce (table_due l))) (cond (is_known l) (Ok (Renewed (home l))) (Ok (Entered (free l))))
+seat_of l = answer_by Err (cond (is_known l) (Ok (Renewed (home l))) (Ok (Entered (free l)))) (first_of (of_announce (table_due l)))
 
 -- what a seat makes of the table
 abbrev pub settled_of : Answer → Table → Announce → ℕ → Admitted

@@ -98,14 +98,14 @@ pub fn judge_sum(sum: Nanoseconds) -> Sum
     }
 }
 
-// HUGE: forward less the delay is at or beyond 1,000,000,000, either way.
+// HUGE: a second or more away from 0.
 pub fn huge(forward: Nanoseconds, delay: u32) -> bool
     ensures { result ≡ huge_of (forward.0 -ℤ pos delay) }
 {
     1_000_000_000 <= forward.0.abs_diff(i64::from(delay))
 }
 
-// STEP: forward less the delay that is used is beyond 100,000,000, either way.
+// STEP: more than a tenth of a second away from 0, by the delay that is used.
 // Beside `huge`: the limit is within HUGE and outside STEP.
 pub fn is_step(forward: Nanoseconds, used: u32) -> bool
     ensures { result ≡ is_step (forward.0 -ℤ pos used) }

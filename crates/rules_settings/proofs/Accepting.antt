@@ -6,16 +6,16 @@ use Prim.Native.Nat.{ℕ, ◌≤◌, min}
 use native.Mathlib.Omega.{arith}
 use Rattle.numbers.specs.Integers.{up}
 use Rattle.numbers.specs.declared.refusal.Refusal.TheVariants.{Settings as Outside}
-use Rattle.numbers.specs.Grounds.{first_of}
+use Rattle.numbers.specs.Grounds.{first_of, answer_by}
 use Rattle.numbers.specs.Orders.{of_making}
 use Rattle.rules_watch.specs.Settings.{size_of, least_of, wait_of}
 use Rattle.rules_settings.specs.declared.Settings.{Settings}
 use Rattle.rules_settings.specs.declared.Given.{Given}
-use Rattle.rules_settings.specs.Ranges.{steering_fits, watch_fits, as_given, set_unless_barred, settings_of}
+use Rattle.rules_settings.specs.Ranges.{steering_fits, watch_fits, as_given, settings_of}
 use Rattle.rules_settings.proofs.Narrowing.{Ranges, split, in-ranges}
 
 -- the answer by its test, without the list of refusals
-making-order : (b : Bool) (s : Settings) → set_unless_barred (first_of (of_making (not b))) s ≡ cond b (Ok s) (Err Outside)
+making-order : (b : Bool) (s : Settings) → answer_by Err (Ok s) (first_of (of_making (not b))) ≡ cond b (Ok s) (Err Outside)
 unfolding first_of
 making-order true s = refl
 making-order false s = refl

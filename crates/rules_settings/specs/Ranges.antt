@@ -2,8 +2,7 @@
 use Rattle.std.specs.Prelude.{Bool, not, ◌&&◌, ℤ, pos, Ok, Err, Result}
 use Rattle.std.specs.Int.Signed.{le_z, lt_z}
 use Rattle.numbers.specs.Integers.{up}
-use Rattle.numbers.specs.Grounds.{Ruling}
-use Rattle.numbers.specs.Grounds.{first_of}
+use Rattle.numbers.specs.Grounds.{answer_by, first_of}
 use Rattle.numbers.specs.Orders.{of_making}
 use Rattle.rules_settings.specs.declared.Settings.{Settings}
 use Rattle.rules_settings.specs.declared.Given.{Given}
@@ -43,13 +42,9 @@ as_given g =
       watch = record { window = up g.window; minimum = up g.minimum; holdoff = up g.holdoff; tolerance = up g.tolerance; spike = up g.spike; jump = up g.jump };
     }
 
-abbrev pub set_unless_barred : Ruling → Settings → Set
-set_unless_barred (Err r) s = Err r
-set_unless_barred (Ok _) s = Ok s
-
 -- the settings, unless one is out of its range (rule 3.54)
 abbrev pub settings_of : Given → Set
-settings_of g = set_unless_barred (first_of (of_making (not (steering_fits g && watch_fits g)))) (as_given g)
+settings_of g = answer_by Err (Ok (as_given g)) (first_of (of_making (not (steering_fits g && watch_fits g))))
 
 -- the settings of no unit
 abbrev pub bare_settings : Settings

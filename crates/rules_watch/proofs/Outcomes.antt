@@ -9,7 +9,7 @@ use borrow.Author.Tests.{eqb-true, eqb-false}
 use lib.Dec.{eqb}
 use lib.IntN.{ℤ}
 use Rattle.numbers.specs.declared.refusal.Refusal.TheVariants.{Tick, NotReady}
-use Rattle.numbers.specs.Grounds.{first_of}
+use Rattle.numbers.specs.Grounds.{first_of, answer_by}
 use Rattle.numbers.specs.Orders.{of_tick, of_line}
 use Rattle.rules_watch.specs.declared.settings.WatchSettings.{WatchSettings}
 use Rattle.rules_watch.specs.declared.window.Sample.{Sample}
@@ -17,18 +17,18 @@ use Rattle.rules_watch.specs.declared.totals.Line as lines
 use Rattle.rules_watch.specs.declared.judging.Judged.{Judged}
 use Rattle.rules_watch.specs.declared.Watch.{Watch}
 use Rattle.rules_watch.specs.Totals.{points_of, line_through}
-use Rattle.rules_watch.specs.Rules.{Since, on_last, outside_of, inside, outcome, unless_barred, due, line_if_due, line_unless_barred}
+use Rattle.rules_watch.specs.Rules.{Since, on_last, outside_of, inside, outcome, due, line_if_due}
 use Rattle.rules_watch.specs.Watch.{since_of}
 use Rattle.rules_watch.specs.Inner.{newest_in, latest_of, latest}
 use Rattle.rules_watch.proofs.Ring.{on-last}
 use Rattle.rules_watch.proofs.Places.{watch-none, watch-last}
 
-pub tick-order : (outside : Bool) (j : Judged) → unless_barred (first_of (of_tick outside)) j ≡ cond outside (Err Tick) (Ok j)
+pub tick-order : (outside : Bool) (j : Judged) → answer_by Err (Ok j) (first_of (of_tick outside)) ≡ cond outside (Err Tick) (Ok j)
 unfolding first_of
 tick-order true j = refl
 tick-order false j = refl
 
-pub line-order : (ready : Bool) (q : lines.Line) → line_unless_barred (first_of (of_line (not ready))) q ≡ cond ready (Ok q) (Err NotReady)
+pub line-order : (ready : Bool) (q : lines.Line) → answer_by Err (Ok q) (first_of (of_line (not ready))) ≡ cond ready (Ok q) (Err NotReady)
 unfolding first_of
 line-order true q = refl
 line-order false q = refl

@@ -1,8 +1,7 @@
 -- What is made of a second pulse and of the samples taken since the wipe (rules 9.1 to 9.13).
 use Rattle.std.specs.Prelude.{Bool, true, false, cond, not, ◌&&◌, ◌||◌, List, [], ◌∷◌, ◌++◌, ℕ, ◌^◌, leb, ltb, ℤ, pos, nat_abs, ◌-ℤ◌, length, Ok, Err, Result}
 use Rattle.std.specs.Int.Signed.{le_z, lt_z}
-use Rattle.numbers.specs.Grounds.{Ruling}
-use Rattle.numbers.specs.Grounds.{first_of}
+use Rattle.numbers.specs.Grounds.{answer_by, first_of}
 use Rattle.numbers.specs.Orders.{of_tick, of_line}
 use Rattle.rules_watch.specs.declared.settings.WatchSettings.{WatchSettings}
 use Rattle.rules_watch.specs.declared.window.Sample.{Sample}
@@ -97,13 +96,9 @@ inside t h reference clock =
     (λ previous. followed t h.origin previous reference (clock -ℤ reference -ℤ h.origin))
     h.samples
 
-abbrev pub unless_barred : Ruling → Judged → Outcome
-unless_barred (Err r) j = Err r
-unless_barred (Ok _) j = Ok j
-
 -- what is made of a pulse (rule 3.63)
 abbrev pub outcome : WatchSettings → Since → ℤ → ℤ → Outcome
-outcome t h reference clock = unless_barred (first_of (of_tick (outside_of reference || outside_of clock))) (inside t h reference clock)
+outcome t h reference clock = answer_by Err (Ok (inside t h reference clock)) (first_of (of_tick (outside_of reference || outside_of clock)))
 
 -- the samples taken since the wipe, after one pulse more (rule 9.7)
 abbrev pub since_by : Since → Outcome → Since
@@ -128,13 +123,9 @@ window_of t l = last_n (size_of t) l
 abbrev pub due : WatchSettings → ℕ → List Sample → Bool
 due t taken window = leb (wait_of t) taken && leb (least_of t) (length (points_of window))
 
-abbrev pub line_unless_barred : Ruling → lines.Line → Drift
-line_unless_barred (Err r) q = Err r
-line_unless_barred (Ok _) q = Ok q
-
 -- the line through a window, unless it is refused (rule 3.64)
 abbrev pub line_if_due : WatchSettings → ℕ → List Sample → Drift
-line_if_due t taken window = line_unless_barred (first_of (of_line (not (due t taken window)))) (line_through (points_of window))
+line_if_due t taken window = answer_by Err (Ok (line_through (points_of window))) (first_of (of_line (not (due t taken window))))
 
 abbrev pub line_since : WatchSettings → Since → Drift
 line_since t h = line_if_due t (length h.samples) (window_of t h.samples)

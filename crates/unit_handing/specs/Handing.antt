@@ -3,9 +3,8 @@
 use Rattle.std.specs.Prelude.{ℕ, Bool, not, List, [], ◌∷◌, eqb, ℤ, length, Ok, Err, Result}
 use Rattle.numbers.specs.declared.stamp.Stamp.{Stamp}
 use Rattle.numbers.specs.declared.refusal.Refusal.TheVariants.{Settings}
-use Rattle.numbers.specs.Grounds.{Ruling}
+use Rattle.numbers.specs.Grounds.{answer_by, first_of}
 use Rattle.wire_layout.specs.Reading.{Read}
-use Rattle.numbers.specs.Grounds.{first_of}
 use Rattle.numbers.specs.Orders.{none_due, due_with, of_handing, of_time}
 use Rattle.wire_layout.specs.declared.message.Body.{Body}
 use Rattle.wire_layout.specs.declared.message.Message.{Message}
@@ -35,11 +34,6 @@ pub data Handed (T : Type 0) : Type 0 where
   line : Handed T
   show : Handed T
 
--- ---- what the unit is asked, or what bars it
-abbrev pub unless_barred : Ruling → Call → Asked
-unless_barred (Ok _) call = Ok call
-unless_barred (Err r) call = Err r
-
 -- a Delay_Req, by its number
 abbrev pub is_delay_req : Body → Bool
 is_delay_req body = eqb (kind_of body) 1
@@ -48,8 +42,9 @@ is_delay_req body = eqb (kind_of body) 1
 abbrev pub is_stray : ℕ → Bool
 is_stray lent = not (eqb lent 5)
 
+-- ---- what the unit is asked, or what bars it
 unfoldable pub message_asked : ℕ → Message → ℕ → Stamp → Asked
-message_asked lent m now arrival = unless_barred (first_of (of_handing (is_delay_req m.body) (is_stray lent))) (Receive now arrival m)
+message_asked lent m now arrival = answer_by Err (Ok (Receive now arrival m)) (first_of (of_handing (is_delay_req m.body) (is_stray lent)))
 
 -- what cannot be read is barred by reading's own refusal
 abbrev pub read_asked : ℕ → Read → ℕ → Stamp → Asked
@@ -57,7 +52,7 @@ read_asked lent (Ok (m, part)) now arrival = message_asked lent m now arrival
 read_asked lent (Err r) now arrival = Err r
 
 unfoldable pub time_asked : ℕ → ℕ → Asked
-time_asked lent now = unless_barred (first_of (of_time (due_with Settings (is_stray lent) none_due))) (Time now)
+time_asked lent now = answer_by Err (Ok (Time now)) (first_of (of_time (due_with Settings (is_stray lent) none_due)))
 
 unfoldable pub asked_of : Handed ℕ → Asked
 asked_of (receive lent octets now arrival) = read_asked lent (read_of octets) now arrival

@@ -55,10 +55,25 @@ fn functions(file: &str) -> Vec<Function> {
     starts.iter().flat_map(|start| code.split(start).skip(1).map(function)).collect()
 }
 
-/// The parameters that are lent to be changed.
+/// The parameters that are lent to be changed, `self` among them.
 fn lent(function: &Function) -> Vec<&str> {
-    let named = function.parameters.split(',').filter_map(|parameter| parameter.split_once(':'));
-    named.filter(|(_, of)| of.trim().starts_with("&mut ")).map(|(name, _)| name.trim()).collect()
+    let changed = |parameter: &str| match parameter.trim().split_once(':') {
+        Some((_, of)) => of.trim().starts_with("&mut "),
+        None => parameter.trim() == "&mut self",
+    };
+    let parameters = function.parameters.split(',').filter(|parameter| changed(parameter));
+    parameters
+        .map(|p| p.trim().trim_start_matches("&mut ").split(':').next().unwrap_or(p))
+        .collect()
+}
+
+/// What a conversion gives is settled: by its last name alone, for every value that it is given.
+fn gives(block: &str) -> bool {
+    let told = block.split_once("from_gives = { λ ").and_then(|(_, told)| told.split_once(". "));
+    told.is_some_and(|(names, told)| match names.split_once(' ') {
+        Some((_, given)) => told.starts_with(&format!("{given} ≡ ")),
+        None => false,
+    })
 }
 
 /// The conversions of a source that don't say what they give.
@@ -67,7 +82,7 @@ fn open_conversions(file: &str) -> Vec<String> {
         file.split("\nimpl ").skip(1).map(|block| block.split("\n}\n").next().unwrap_or(block));
     let open = |block: &&str| {
         let head = block.lines().next().unwrap_or("");
-        head.contains("From<") && !block.contains("from_gives = { ")
+        head.contains("From<") && !gives(block)
     };
     let named = |block: &str| block.lines().next().unwrap_or("").trim_end_matches(" {").to_string();
     blocks
@@ -167,6 +182,11 @@ fn a_contract_that_leaves_something_open_is_found() {
         faulty(&promised.replace("    ensures", "    requires { c }\n    ensures")),
         ["f: it asks something of its caller"]
     );
+    let method = promised.replace("a: u8, b: &mut [u8]", "&mut self, a: u8");
+    assert_eq!(faulty(&method.replace("b.new", "self.new")), [""; 0]);
+    assert_eq!(faulty(&method.replace("b.new", "self.old")), ["f: self is not settled"]);
+    let emptied = "\n    pub fn g(&mut self)\n    {\n        self.0 = 0;\n    }\n";
+    assert_eq!(faulty(emptied), ["g: self is not settled"]);
     let bare = "\npub fn e() -> u8 {\n    1\n}\n";
     assert_eq!(faulty(&format!("{bare}{promised}")), ["e: its answer is not settled"]);
     assert_eq!(faulty("\n// pub fn f() -> u8 {\nfn g() -> u8 {\n"), [""; 0]);
@@ -179,5 +199,8 @@ fn a_conversion_that_says_nothing_is_found() {
     let told =
         silent.replace("    fn from", "    ghost from_gives = { λ a b. b ≡ f a };\n\n    fn from");
     assert_eq!(open_conversions(&told), [""; 0]);
+    assert_eq!(open_conversions(&told.replace("b ≡ f a", "b.0 ≡ f a")).len(), 1);
+    assert_eq!(open_conversions(&told.replace("b ≡ f a", "a ≡ a")).len(), 1);
+    assert_eq!(open_conversions(&told.replace("b ≡", "b ≢")).len(), 1);
     assert_eq!(open_conversions(&format!("{told}{silent}")).len(), 1);
 }

@@ -146,6 +146,7 @@ impl Exchange {
     pub fn request(&mut self, sequence: u16) -> Said
         ensures answer { result ≡ Said.Asked sequence }
         ensures exchange { said_with result self.new ≡ told self.old (requested sequence) }
+        ensures after { self.new ≡ (told self.old (requested sequence)).exchange }
     {
         self.request = Request {
             pending: true,

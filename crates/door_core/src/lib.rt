@@ -1,4 +1,4 @@
-// The steps of the door, by value: of what a call is lent each takes only what its rules ask, and says what the call is to store. Here are a fresh unit,
+// The steps of the door, over values and what is lent by `&`: each takes what its rules ask, and says what the call is to store. Here are a fresh unit,
 // a message read and sorted, the wipe, the line and what is shown; door_choosing and door_measuring have the rest.
 #![tactic(auto)]
 

@@ -8,7 +8,7 @@ use door_records::exchange::{DelaysWords, HalvesWords};
 use door_records::unit::{SettingsWords, StateWords};
 use door_words::answers::AnswerWords;
 use rules_servo::Servo;
-use unit_core::run::{Fresh, one_more};
+use unit_core::run::{Fresh, Run, one_more};
 
 #[derive(Clone, Copy)]
 pub struct Emptied {
@@ -32,10 +32,11 @@ pub fn clear(s: SettingsWords) -> Emptied
 pub fn wipe(t: StateWords) -> StateWords
     ensures { result ≡ wiped_state t }
 {
+    let run = Run::fresh();
     StateWords {
-        at: 0,
+        at: run.at,
         wipes: one_more(t.wipes),
-        measured: 0,
+        measured: run.measured.into(),
         ..t
     }
 }

@@ -6,6 +6,7 @@ ghost use Rattle.rules_exchange.specs.Events.{field_of};
 
 use crate::halves::{Request, Sync};
 use numbers::refusal::Refusal;
+use numbers::rounding::magnitude;
 use numbers::stamp::{Stamp, sound};
 use wire_layout::message::Port;
 
@@ -20,7 +21,7 @@ pub fn field(t: Stamp) -> bool
 pub(crate) fn correction(c: i64) -> Result<(), Refusal>
     ensures { result ≡ correction_barred c }
 {
-    if c.unsigned_abs() < 65_536_000_000_000 {
+    if magnitude(c) < 65_536_000_000_000 {
         Ok(())
     } else {
         Err(Refusal::Correction)

@@ -64,15 +64,18 @@ impl Pulse {
 }
 
 impl Watch {
+    // As `empty` leaves any: what a fresh watch holds is said there alone.
     pub fn fresh() -> Watch
         ensures { result ≡ fresh_watch }
     {
-        Watch {
+        let mut watch = Watch {
             head: Head::default(),
             references: [0; 128],
             ys: [0; 128],
             marks: [0; 128],
-        }
+        };
+        watch.empty();
+        watch
     }
 
     // All three columns cleared, and the head of a fresh watch.

@@ -54,7 +54,7 @@ impl Unit {
         self.core = moved.core;
         self.servo = moved.servo;
         if moved.wipes {
-            self.watch = Watch::fresh();
+            self.watch.empty();
         }
         Stepped {
             answer: moved.answer,

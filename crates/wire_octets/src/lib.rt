@@ -36,5 +36,7 @@ pub fn copy_in(d: &mut [u8], at: usize, a: &[u8])
     requires { at + length a.now ≤ length d.old }
     ensures { d.new ≡ put d.old at a.now }
 {
-    d[at..at + a.len()].copy_from_slice(a);
+    for j in 0..a.len() {
+        d[at + j] = a[j];
+    }
 }

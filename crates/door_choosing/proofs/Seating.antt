@@ -1,10 +1,11 @@
 -- An Announce that is seated: the place, the record that is stored there, and what is chosen over the table after it.
-use Rattle.std.specs.Prelude.{Ok, Option}
+use Rattle.std.specs.Prelude.{Ok, Err, Option}
 use Rattle.std.proofs.lemmas.List.{map-set}
 use mathlib.Core.Path.{◌≡◌, sym, ap, ◌∙◌}
 use mathlib.Core.List.{List}
 use Prim.Native.Nat.{ℕ}
 use lib.ListN.{length, set}
+use Rattle.numbers.specs.declared.refusal.Refusal.{Refusal}
 use Rattle.wire_layout.specs.declared.message.Message.{Message}
 use Rattle.rules_masters.specs.declared.admission.Entry.{Entry}
 use Rattle.rules_masters.specs.declared.candidate.Candidate.{Candidate}
@@ -38,3 +39,9 @@ module _ (s : SettingsWords) (t : StateWords) (l : List MasterWords) (m : Messag
       held =
           rw (p, k) at h
           ∙ ap (λ c. held_of t now (best_of c)) (sym (map-set asked l (place_in e) (master_words (placed_of l (announce_in m) now e))))
+
+-- or there is no place for it
+pub unseated : (s : SettingsWords) (t : StateWords) (l : List MasterWords) (m : Message) (now : ℕ) → length l ≡ 5
+    → barred_of (announce_in m) s.domain (own_in s) t.now now ≡ Ok tt → (n : Refusal)
+    → seat_of (standings_of l (announce_in m) now (interval_of s.announce)) ≡ Err n → announced_of s t l m now ≡ Err n
+unseated s t l m now five clear n seat = rw (five, clear, seat)

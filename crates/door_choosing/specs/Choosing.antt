@@ -5,6 +5,7 @@ use Rattle.numbers.specs.declared.refusal.Refusal.TheVariants.{Settings as Outsi
 use Rattle.numbers.specs.Grounds.{first_of, answer_by}
 use Rattle.numbers.specs.Orders.{number_of, of_time}
 use Rattle.wire_layout.specs.declared.message.Message.{Message}
+use Rattle.wire_layout.specs.declared.message.Header.{Header}
 use Rattle.wire_layout.specs.Kinds.{stamp_in}
 use Rattle.rules_masters.specs.declared.admission.Entry.{Entry}
 use Rattle.rules_masters.specs.declared.admission.Entry.TheVariants.{Renewed, Entered}
@@ -29,6 +30,7 @@ use Rattle.door_words.specs.Messages.{offer_in}
 use Rattle.door_words.specs.Answers.{choosing, refusing}
 use Rattle.door_core.specs.Wiping.{wiped_state}
 use Rattle.door_choosing.specs.declared.Held.{Held}
+use Rattle.door_choosing.specs.declared.Looked.{Looked}
 use Rattle.door_choosing.specs.declared.Seated.{Seated}
 
 -- 8, of a lent table that is not of five
@@ -39,7 +41,11 @@ untabled_of = refusing (number_of Outside)
 abbrev pub announce_in : Message → Announce
 announce_in m = record { header = m.header; stamp = stamp_in m.body; offer = offer_in m.body }
 
--- what an Announce and the choice ask of each record
+-- what an Announce asks of one record, for its place and for the choice
+abbrev pub looked_of : Header → (now span : ℕ) → Record → Looked
+looked_of h now span r = record { standing = standing_of h.source h.sequence now span r; candidate = candidate_of now span r }
+
+-- what an Announce and the choice ask of each
 abbrev pub standings_of : List MasterWords → Announce → (now span : ℕ) → List Standing
 standings_of l m now span = map (λ r. standing_of m.header.source m.header.sequence now span (record_in r)) l
 

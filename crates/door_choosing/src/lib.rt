@@ -1,11 +1,10 @@
 // The steps of the door that choose, for an Announce and the bare time call: the one record to be stored, and what is chosen over the five.
 #![tactic(auto)]
 
-ghost use Rattle.std.specs.Prelude.{◌≡◌, ◌<◌, IfOk, map, length};
-ghost use Rattle.rules_masters.specs.Admitting.{standing_of};
-ghost use Rattle.rules_masters.specs.Inner.{place_in, candidate_of};
+ghost use Rattle.std.specs.Prelude.{◌≡◌, ◌<◌, cond, eqb, IfOk, [], ◌∷◌, set, length};
+ghost use Rattle.rules_masters.specs.Inner.{place_in, candidate_of, best_of};
 ghost use Rattle.door_records.specs.Masters.{record_in};
-ghost use Rattle.door_choosing.specs.Choosing.{announce_in, placed_of, held_of, announced_of, passed_of, untabled_of};
+ghost use Rattle.door_choosing.specs.Choosing.{announce_in, looked_of, candidates_of, placed_of, held_of, announced_of, passed_of, untabled_of};
 
 use door_core::wiping::wipe;
 use door_records::masters::MasterWords;
@@ -15,7 +14,7 @@ use door_words::messages::offer_in;
 use numbers::refusal::Refusal;
 use rules_masters::admission::{Entry, barred};
 use rules_masters::candidate::Candidate;
-use rules_masters::choice::best;
+use rules_masters::choice::{chosen, meet};
 use rules_masters::chosen::Chosen;
 use rules_masters::moment::Moment;
 use rules_masters::record::{Announce, Record};
@@ -57,46 +56,78 @@ fn announce_in(m: Message) -> Announce
     }
 }
 
-// What an Announce asks of one record, ..
-fn stands(r: MasterWords, heard: &Header, at: Moment) -> Standing
-    ensures { result ≡ standing_of heard.now.source heard.now.sequence at.now at.interval (record_in r) }
-{
-    Record::from(r).stands(heard, at)
+// What an Announce asks of one record: for its place, and for the choice.
+#[derive(Clone, Copy)]
+pub struct Looked {
+    pub standing: Standing,
+    pub candidate: Option<Candidate>,
 }
 
-// Record by record and not by the unit's Table: of the lent one no copy is made. One by one and not by `map`, which copies each record: the bare time
-// call then takes 1,668 instructions, and 800 are its bar (docs/COST.md).
-fn standings(table: &[MasterWords; 5], heard: &Header, at: Moment) -> [Standing; 5]
-    ensures { result ≡ map (λ r. standing_of heard.now.source heard.now.sequence at.now at.interval (record_in r)) table.now }
+// Each record is read once.
+pub fn look(r: MasterWords, heard: &Header, at: Moment) -> Looked
+    ensures { result ≡ looked_of heard.now at.now at.interval (record_in r) }
 {
-    let [a, b, c, d, e] = table;
-    [
-        stands(*a, heard, at),
-        stands(*b, heard, at),
-        stands(*c, heard, at),
-        stands(*d, heard, at),
-        stands(*e, heard, at),
-    ]
+    let record = Record::from(r);
+    Looked {
+        standing: record.stands(heard, at),
+        candidate: record.candidate(at),
+    }
 }
 
-// .. and what the choice asks of it.
-fn candidate(r: MasterWords, at: Moment) -> Option<Candidate>
+// What the bare time call asks of it.
+pub fn candidate(r: MasterWords, at: Moment) -> Option<Candidate>
     ensures { result ≡ candidate_of at.now at.interval (record_in r) }
 {
     Record::from(r).candidate(at)
 }
 
-fn candidates(table: &[MasterWords; 5], at: Moment) -> [Option<Candidate>; 5]
-    ensures { result ≡ map (λ r. candidate_of at.now at.interval (record_in r)) table.now }
+// At the place that was stored the new one, at any other the one that was read.
+fn pick(
+    at: usize,
+    place: usize,
+    new: Option<Candidate>,
+    old: Option<Candidate>,
+) -> Option<Candidate>
+    ensures { result ≡ cond (eqb at place) new old }
+{
+    if at == place { new } else { old }
+}
+
+// The choice over the five that were looked at, with the new one at its place. The five are met one by one, and neither a list nor an array is made of
+// them: a candidate that may be none is written and copied with the octets between its fields (docs/DECISIONS.md, "The five at the door").
+fn best_stored(
+    at: usize,
+    new: Option<Candidate>,
+    a: Looked,
+    b: Looked,
+    c: Looked,
+    d: Looked,
+    e: Looked,
+) -> Chosen
+    requires { at < 5 }
+    ensures { result ≡ best_of (set (a.candidate ∷ b.candidate ∷ c.candidate ∷ d.candidate ∷ e.candidate ∷ []) at new) }
+{
+    let mut held = None;
+    meet(&mut held, pick(at, 0, new, a.candidate));
+    meet(&mut held, pick(at, 1, new, b.candidate));
+    meet(&mut held, pick(at, 2, new, c.candidate));
+    meet(&mut held, pick(at, 3, new, d.candidate));
+    meet(&mut held, pick(at, 4, new, e.candidate));
+    chosen(&held)
+}
+
+// The choice over the lent table as it lies.
+fn best_over(table: &[MasterWords; 5], at: Moment) -> Chosen
+    ensures { result ≡ best_of (candidates_of table.now at.now at.interval) }
 {
     let [a, b, c, d, e] = table;
-    [
-        candidate(*a, at),
-        candidate(*b, at),
-        candidate(*c, at),
-        candidate(*d, at),
-        candidate(*e, at),
-    ]
+    let mut held = None;
+    meet(&mut held, candidate(*a, at));
+    meet(&mut held, candidate(*b, at));
+    meet(&mut held, candidate(*c, at));
+    meet(&mut held, candidate(*d, at));
+    meet(&mut held, candidate(*e, at));
+    chosen(&held)
 }
 
 // The record of the place: renewed where it is the sender's, else a new one.
@@ -142,15 +173,20 @@ pub fn announce(
     let heard = announce_in(m);
     barred(heard, s.domain, s.own(), t.now, now)?;
     let at = Moment::of(now, s.announce);
-    let entry = seat(&standings(five, &m.header, at))?;
+    let [a, b, c, d, e] = five;
+    let a = look(*a, &m.header, at);
+    let b = look(*b, &m.header, at);
+    let c = look(*c, &m.header, at);
+    let d = look(*d, &m.header, at);
+    let e = look(*e, &m.header, at);
+    let entry = seat(&[a.standing, b.standing, c.standing, d.standing, e.standing])?;
     let record = placed(five, entry, heard, now);
-    let mut candidates = candidates(five, at);
     let place = entry.place();
-    candidates[place] = record.candidate(at);
+    let best = best_stored(place, record.candidate(at), a, b, c, d, e);
     Ok(Seated {
         at: place,
         stored: record.into(),
-        held: hold(t, now, best(&candidates)),
+        held: hold(t, now, best),
     })
 }
 
@@ -166,5 +202,5 @@ pub fn pass(
     let five: &[MasterWords; 5] = table.as_array().ok_or(Refusal::Settings)?;
     time_barred(t.now, now)?;
     let at = Moment::of(now, s.announce);
-    Ok(hold(t, now, best(&candidates(five, at))))
+    Ok(hold(t, now, best_over(five, at)))
 }

@@ -14,7 +14,7 @@ use Rattle.rules_masters.specs.Records.{interval_of, qualified_of}
 use Rattle.rules_masters.specs.Comparison.{better_of}
 use Rattle.rules_masters.specs.Choosing.{those, kept_among, choice_among, choice_of}
 use Rattle.rules_masters.specs.Holding.{fresh_chosen, chosen_of, chosen_at}
-use Rattle.rules_masters.specs.Inner.{candidate_of, beats_of, kept_of, sender_in, best_of}
+use Rattle.rules_masters.specs.Inner.{candidate_of, beats_of, kept_of, last_in, sender_in, best_of}
 use Rattle.rules_masters.proofs.Order.{in-order}
 
 -- ---- the choice step by step, as the code makes it, is the choice among those that are there
@@ -54,6 +54,15 @@ module _ (l : List (Option Candidate)) (r : Option Candidate) (e : r ≡ fold ke
   pub best_none : r ≡ None → fresh_chosen ≡ best_of l
   unfolding best_of
   best_none h = rw (by-none (choice_among beats_of (there l)) (sym (steps l) ∙ sym e ∙ h))
+
+-- so the one held after the last step is the best
+pub last-best : (l : List (Option Candidate)) → last_in (fold kept_of None l) ≡ best_of l
+unfolding best_of
+last-best l = rw (steps l) (by (choice_among beats_of (there l)))
+  where
+    by : (k : Chance Candidate) → last_in (as_option k) ≡ sender_in k
+    by none = refl
+    by (some c) = refl
 
 -- ---- the choice over the records
 module _ (now interval : ℕ) where

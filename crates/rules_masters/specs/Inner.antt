@@ -76,6 +76,11 @@ beats_of a b =
     cond (eqb a.merits.grandmaster b.merits.grandmaster) (smaller (nearness_in a.nearness) (nearness_in b.nearness))
     (smaller (merits_in a.merits) (merits_in b.merits))
 
+-- the next one, qualified, takes over from the one held
+abbrev pub taken_over : Option Candidate → Candidate → Bool
+taken_over None next = true
+taken_over (Some held) next = beats_of next held
+
 -- one step of the choice
 unfoldable pub kept_of : (held next : Option Candidate) → Option Candidate
 kept_of None next = next
@@ -85,6 +90,11 @@ kept_of (Some h) (Some n) = Some (cond (beats_of n h) n h)
 abbrev pub sender_in : Chance Candidate → Chosen
 sender_in none = fresh_chosen
 sender_in (some c) = record { some = true; sender = c.nearness.sender }
+
+-- the master that the one held after the last step is
+abbrev pub last_in : Option Candidate → Chosen
+last_in None = fresh_chosen
+last_in (Some c) = record { some = true; sender = c.nearness.sender }
 
 -- the choice over candidates
 unfoldable pub best_of : List (Option Candidate) → Chosen

@@ -1,7 +1,7 @@
 // The choice of the master: place by place, the qualified ones only, each that is better taking over from the one held (rule 5.11).
 ghost use Rattle.std.specs.Prelude.{◌≡◌};
 ghost use Rattle.rules_masters.specs.Holding.{chosen_at};
-ghost use Rattle.rules_masters.specs.Inner.{kept_of, best_of};
+ghost use Rattle.rules_masters.specs.Inner.{taken_over, kept_of, last_in, best_of};
 
 use crate::candidate::Candidate;
 use crate::chosen::Chosen;
@@ -9,15 +9,45 @@ use crate::comparison::better;
 use crate::moment::Moment;
 use crate::table::Table;
 
-// One step of the choice.
+// A qualified one takes over where it is better than the one held, or none is held yet.
+fn takes_over(held: &Option<Candidate>, next: Candidate) -> bool
+    ensures { result ≡ taken_over held.now next }
+{
+    match *held {
+        None => true,
+        Some(held) => better(next, held),
+    }
+}
+
+// One step of the choice, where the one held lies: only one that takes over is copied.
 #[tactic(auto, unfolding(crate::specs::Inner::kept_of))]
-fn keep(held: Option<Candidate>, next: Option<Candidate>) -> Option<Candidate>
+pub fn meet(held: &mut Option<Candidate>, next: Option<Candidate>)
+    ensures { held.new ≡ kept_of held.old next }
+{
+    if let Some(next) = next {
+        if takes_over(held, next) {
+            *held = Some(next);
+        }
+    }
+}
+
+fn keep(mut held: Option<Candidate>, next: Option<Candidate>) -> Option<Candidate>
     ensures { result ≡ kept_of held next }
 {
-    match (held, next) {
-        (None, _) => next,
-        (Some(h), Some(n)) if better(n, h) => next,
-        _ => held,
+    meet(&mut held, next);
+    held
+}
+
+// The master that the one held after the last step is, or none.
+pub fn chosen(held: &Option<Candidate>) -> Chosen
+    ensures { result ≡ last_in held.now }
+{
+    match *held {
+        Some(last) => Chosen {
+            some: true,
+            sender: last.nearness.sender,
+        },
+        None => Chosen::fresh(),
     }
 }
 
@@ -25,13 +55,7 @@ fn keep(held: Option<Candidate>, next: Option<Candidate>) -> Option<Candidate>
 pub fn best(candidates: &[Option<Candidate>; 5]) -> Chosen
     ensures { result ≡ best_of candidates.now }
 {
-    match candidates.iter().fold(None, |held, next| keep(held, *next)) {
-        Some(last) => Chosen {
-            some: true,
-            sender: last.nearness.sender,
-        },
-        None => Chosen::fresh(),
-    }
+    chosen(&candidates.iter().fold(None, |held, next| keep(held, *next)))
 }
 
 // The master that the choice at `now` gives over this table; a is the announce exponent.

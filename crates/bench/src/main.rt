@@ -31,10 +31,10 @@ impl Bench {
     fn line_end(&mut self) -> io::Result<()> {
         if !matches!(self.line.as_slice(), [] | [b'#', ..]) {
             if self.line.is_full() {
-                self.desk.answer(&mut self.out, None)?;
+                self.desk.answer(&mut self.out, None);
             } else {
                 let call = call_of(&self.line, &mut self.store);
-                self.desk.answer(&mut self.out, call)?;
+                self.desk.answer(&mut self.out, call);
             }
             writeln!(self.out)?;
         }

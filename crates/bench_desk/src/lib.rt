@@ -14,10 +14,10 @@ use std::io::Write;
 use unit::{Stepped, Unit, request_into};
 use unit_handing::serve;
 
-#[derive(Drop)]
+#[derive(Clone, Copy)]
 pub struct Desk {
-    lent: u8, // how many records of the table later calls are lent
-    unit: Option<Unit>, // the one that was made last
+    pub lent: u8, // how many records of the table later calls are lent
+    pub unit: Option<Unit>, // the one that was made last
 }
 
 impl Desk {
@@ -61,19 +61,19 @@ impl Desk {
         }
     }
 
-    // The answer to a line that is this call, or none.
-    pub fn answer(&mut self, out: &mut Out, call: Option<Call>) -> io::Result<()>
+    // The answer to a line that is this call, or none. It can't fail: a write that does is kept by `out`, which tells it.
+    pub fn answer(&mut self, out: &mut Out, call: Option<Call>)
         ensures { IsNone call.entry → self.new ≡ self.old }
     {
-        match call {
+        let _ = match call {
             None => write!(out, "bad line"),
             Some(Call::Lend(count)) => {
                 self.lent = count;
                 write!(out, "ok")
             }
-            Some(Call::Read(octets)) => read(out, octets.held),
-            Some(Call::Write(message, suffix, room)) => write(out, message, suffix.held, room),
+            Some(Call::Read(octets)) => Ok(read(out, octets.held)),
+            Some(Call::Write(message, suffix, room)) => Ok(write(out, message, suffix.held, room)),
             Some(Call::ToUnit(call)) => self.plays(out, call),
-        }
+        };
     }
 }

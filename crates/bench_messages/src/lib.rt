@@ -1,4 +1,4 @@
-// What is answered to `read` and `write`, which need no unit.
+// What is answered to `read` and `write`, which need no unit. Neither can fail: a write that does is kept by `out`, which tells it.
 #![tactic(auto)]
 
 use bench_text::{Octets, Out, Text};
@@ -11,7 +11,11 @@ fn part_of(octets: &[u8], part: Part) -> &[u8] {
     octets.get(part.from..part.to).unwrap_or(b"")
 }
 
-pub fn read(out: &mut Out, octets: &[u8]) -> io::Result<()> {
+pub fn read(out: &mut Out, octets: &[u8]) {
+    let _ = read_to(out, octets);
+}
+
+fn read_to(out: &mut Out, octets: &[u8]) -> io::Result<()> {
     match wire_reader::read(octets) {
         Ok((message, suffix)) => {
             let suffix = part_of(octets, suffix);
@@ -22,7 +26,11 @@ pub fn read(out: &mut Out, octets: &[u8]) -> io::Result<()> {
 }
 
 // The part that is lent to writing has `room` octets, each ee before the call.
-pub fn write(out: &mut Out, message: Message, suffix: &[u8], room: usize) -> io::Result<()> {
+pub fn write(out: &mut Out, message: Message, suffix: &[u8], room: usize) {
+    let _ = write_to(out, message, suffix, room);
+}
+
+fn write_to(out: &mut Out, message: Message, suffix: &[u8], room: usize) -> io::Result<()> {
     let mut whole = [0xeeu8; 70_000];
     let Some(part) = whole.get_mut(..room) else {
         return write!(out, "bad line");

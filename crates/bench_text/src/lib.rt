@@ -3,7 +3,7 @@
 
 pub mod messages;
 
-ghost use Rattle.std.specs.Prelude.{◌≡◌, ◌++◌, None, Some, [], codes};
+ghost use Rattle.std.specs.Prelude.{◌≡◌, ◌≤◌, ◌++◌, None, Some, [], length, codes};
 ghost use Rattle.std.specs.Fmt.{decimal};
 ghost use Rattle.numbers.specs.Orders.{number_of};
 ghost use Rattle.std.specs.Io.{WritesAtMost};
@@ -13,7 +13,7 @@ ghost use Rattle.bench_text.specs.Out.{told_by, Kept};
 use arrayvec::ArrayVec;
 use numbers::refusal::Refusal;
 use std::io::{Stdout, Write};
-use std::{fmt, io};
+use std::{fmt, io, str};
 
 // The buffer, where it is written out to, and the first write that failed: nothing is written behind it.
 #[derive(Drop)]
@@ -47,13 +47,13 @@ impl Out {
 }
 
 impl Write for Out {
-    // Where the buffer is full it is written out first.
+    // Where the buffer is full it is written out first. Once a write has failed, each later one tells it.
     fn write(&mut self, text: &[u8]) -> io::Result<usize>
         ensures bound { WritesAtMost result text.now }
         ensures bytes { WriteAppends None None result text.now }
         ensures failure { Kept self.old.failed self.new.failed }
     {
-        if self.octets.is_full() {
+        if self.failed.is_some() || self.octets.is_full() {
             self.flush()?;
         }
         self.octets.write(text)
@@ -86,6 +86,20 @@ impl fmt::Display for Text<Refusal> {
     }
 }
 
+// Two digits for each octet, at the front of the store.
+fn digits_of<'a>(piece: &[u8], store: &'a mut [u8; 512]) -> &'a str
+    requires { length piece.now ≤ 256 }
+{
+    let digits = &mut store[..2 * piece.len()];
+    let Ok(()) = hex::encode_to_slice(piece, digits) else {
+        unreachable!();
+    };
+    let Ok(text) = str::from_utf8(digits) else {
+        unreachable!();
+    };
+    text
+}
+
 // Octets in hex, two digits each; `-` means none.
 #[derive(Clone, Copy)]
 pub struct Octets<'a>(pub &'a [u8]);
@@ -95,8 +109,10 @@ impl fmt::Display for Octets<'_> {
         if self.0.is_empty() {
             return write!(f, "-");
         }
-        for octet in self.0 {
-            write!(f, "{octet:02x}")?;
+        // By the piece: a format for each octet takes ten times as long.
+        let mut store = [0u8; 512];
+        for piece in self.0.chunks(256) {
+            f.write_str(digits_of(piece, &mut store))?;
         }
         Ok(())
     }

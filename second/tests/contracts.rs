@@ -48,9 +48,14 @@ fn function(text: &str) -> Function {
     Function { name: name.to_string(), parameters: parameters[1..].to_string(), promises }
 }
 
-fn functions(file: &str) -> Vec<Function> {
+/// A source without its comments.
+fn code_of(file: &str) -> String {
     let code = file.lines().filter(|line| !line.trim_start().starts_with("//"));
-    let code: String = code.map(|line| format!("{line}\n")).collect();
+    code.map(|line| format!("{line}\n")).collect()
+}
+
+fn functions(file: &str) -> Vec<Function> {
+    let code = code_of(file);
     let starts = ["\npub fn ", " pub fn ", "pub extern \"C\" fn "];
     starts.iter().flat_map(|start| code.split(start).skip(1).map(function)).collect()
 }
@@ -67,28 +72,38 @@ fn lent(function: &Function) -> Vec<&str> {
         .collect()
 }
 
-/// What a conversion gives is settled: by its last name alone, for every value that it is given.
+/// What a conversion gives is settled: by its last name alone, by a value that is not said by it,
+/// under no condition, for every value that it is given.
 fn gives(block: &str) -> bool {
-    let told = block.split_once("from_gives = { λ ").and_then(|(_, told)| told.split_once(". "));
-    told.is_some_and(|(names, told)| match names.split_once(' ') {
-        Some((_, given)) => told.starts_with(&format!("{given} ≡ ")),
-        None => false,
+    let clause = block.split_once("from_gives = { λ ").and_then(|(_, rest)| rest.split_once(" };"));
+    let Some((names, told)) = clause.and_then(|(told, _)| told.split_once(". ")) else {
+        return false;
+    };
+    let Some((_, given)) = names.split_once(' ') else {
+        return false;
+    };
+    let value = told.strip_prefix(&format!("{given} ≡ "));
+    let parts = |c: char| !c.is_alphanumeric() && c != '_';
+    value.is_some_and(|value| {
+        !value.contains(['→', '⊎']) && !value.split(parts).any(|word| word == given)
     })
 }
 
-/// The conversions of a source that don't say what they give.
+/// The conversions of a source that don't say what they give, or ask something of their caller.
 fn open_conversions(file: &str) -> Vec<String> {
-    let blocks =
-        file.split("\nimpl ").skip(1).map(|block| block.split("\n}\n").next().unwrap_or(block));
-    let open = |block: &&str| {
-        let head = block.lines().next().unwrap_or("");
-        head.contains("From<") && !gives(block)
+    let code = code_of(file);
+    let blocks = code.split("\nimpl").skip(1);
+    let blocks = blocks.map(|block| block.split("\n}\n").next().unwrap_or(block));
+    let fault = |block: &str| {
+        let head = block.lines().next().unwrap_or("").trim_end_matches(" {").trim();
+        let converts = head.contains("From<");
+        if converts && !gives(block) {
+            return Some(format!("{head}: what it gives is not said"));
+        }
+        (converts && block.contains("requires"))
+            .then(|| format!("{head}: it asks something of its caller"))
     };
-    let named = |block: &str| block.lines().next().unwrap_or("").trim_end_matches(" {").to_string();
-    blocks
-        .filter(open)
-        .map(|block| format!("{}: what it gives is not said", named(block)))
-        .collect()
+    blocks.filter_map(fault).collect()
 }
 
 /// What a reader of the contract would miss.
@@ -202,5 +217,14 @@ fn a_conversion_that_says_nothing_is_found() {
     assert_eq!(open_conversions(&told.replace("b ≡ f a", "b.0 ≡ f a")).len(), 1);
     assert_eq!(open_conversions(&told.replace("b ≡ f a", "a ≡ a")).len(), 1);
     assert_eq!(open_conversions(&told.replace("b ≡", "b ≢")).len(), 1);
+    for open in ["b ≡ b", "b ≡ f a ⊎ b ≡ g a", "b ≡ (f b)", "b ≡ [b]", "b ≡ f(c→b.x)"]
+    {
+        assert_eq!(open_conversions(&told.replace("b ≡ f a", open)).len(), 1);
+    }
     assert_eq!(open_conversions(&format!("{told}{silent}")).len(), 1);
+    assert_eq!(open_conversions(&told.replace("ghost from", "// ghost from")).len(), 1);
+    assert_eq!(open_conversions(&told.replace("impl From", "impl<T> From")), [""; 0]);
+    assert_eq!(open_conversions(&silent.replace("impl From", "impl<T> From")).len(), 1);
+    let asking = told.replace("-> B {", "-> B\n        requires { c }\n    {");
+    assert_eq!(open_conversions(&asking), ["From<A> for B: it asks something of its caller"]);
 }

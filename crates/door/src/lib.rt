@@ -76,8 +76,8 @@ pub fn sinezhab_receive(
 {
     *answer = match receiving::receive(octets) {
         Err(refusal) => refusal.into(),
+        Ok(_) if table.len() != 5 => door_choosing::untabled(),
         Ok(Received::Announce(m)) => door_leaving::announce(unit, servo, table, watch, m, time),
-        Ok(Received::Exchange(_)) if table.len() != 5 => door_choosing::untabled(),
         Ok(Received::Exchange(m)) => door_leaving::measure(unit, servo, watch, m, time, arrival),
     };
 }

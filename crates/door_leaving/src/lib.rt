@@ -2,8 +2,11 @@
 // unit, servo and watch stay three parameters: C lends each by itself, and so do the exports.
 #![tactic(auto)]
 
-ghost use Rattle.std.specs.Prelude.{◌≡◌, [], Ok};
+ghost use Rattle.std.specs.Prelude.{◌≡◌, [], Ok, IfOk, IfErr};
+ghost use Rattle.numbers.specs.Orders.{number_of};
+ghost use Rattle.rules_watch.specs.Rules.{code_of};
 ghost use Rattle.rules_watch.specs.Watch.{fresh_watch};
+ghost use Rattle.door_words.specs.Answers.{plain, refusing};
 ghost use Rattle.door_core.specs.Wiping.{emptied_of};
 ghost use Rattle.door_loop.specs.Lending.{unit_with, lent_by, announced_in, told_in, heard_in, sent_of, tick_of};
 
@@ -14,9 +17,10 @@ use door_measuring::measuring::Told;
 use door_records::masters::MasterWords;
 use door_records::unit::UnitWords;
 use door_words::answers::AnswerWords;
+use numbers::refusal::Refusal;
 use numbers::stamp::Stamp;
 use rules_servo::Servo;
-use rules_watch::Watch;
+use rules_watch::{Pulse, Watch};
 use wire_layout::message::Message;
 
 // What a wipe empties: the exchange, the servo, the watch. The state is the caller's.
@@ -128,6 +132,17 @@ pub fn sent(
     }
 }
 
+// What is said of a pulse, before a wipe empties what it was taken by.
+fn answered(taken: Result<Pulse, Refusal>) -> AnswerWords
+    ensures said { IfOk taken (λ p. result ≡ plain (code_of p)) }
+    ensures refused { IfErr taken (λ r. result ≡ refusing (number_of r)) }
+{
+    match taken {
+        Ok(pulse) => pulse.into(),
+        Err(refusal) => refusal.into(),
+    }
+}
+
 // A second pulse: its sample is in the columns, or it wipes.
 pub fn pulse(
     unit: &mut UnitWords,
@@ -141,14 +156,13 @@ pub fn pulse(
         × (servo.new ≡ (tick_of unit.old servo.old watch.old reference clock).servo)
         × (watch.new ≡ (tick_of unit.old servo.old watch.old reference clock).watch) }
 {
-    match watch.take(unit.settings.watch(), reference, clock) {
-        Ok(pulse) => {
-            if pulse.wipes() {
-                unit.state = wiping::wipe(unit.state);
-                freshen(unit, servo, watch);
-            }
-            pulse.into()
+    let taken = watch.take(unit.settings.watch(), reference, clock);
+    let answer = answered(taken);
+    if let Ok(pulse) = taken {
+        if pulse.wipes() {
+            unit.state = wiping::wipe(unit.state);
+            freshen(unit, servo, watch);
         }
-        Err(refusal) => refusal.into(),
     }
+    answer
 }

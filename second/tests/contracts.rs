@@ -49,13 +49,13 @@ fn function(text: &str) -> Function {
 }
 
 /// A source without its comments.
-fn code_of(file: &str) -> String {
+fn uncommented(file: &str) -> String {
     let code = file.lines().filter(|line| !line.trim_start().starts_with("//"));
     code.map(|line| format!("{line}\n")).collect()
 }
 
 fn functions(file: &str) -> Vec<Function> {
-    let code = code_of(file);
+    let code = uncommented(file);
     let starts = ["\npub fn ", " pub fn ", "pub extern \"C\" fn "];
     starts.iter().flat_map(|start| code.split(start).skip(1).map(function)).collect()
 }
@@ -91,7 +91,7 @@ fn gives(block: &str) -> bool {
 
 /// The conversions of a source that don't say what they give, or ask something of their caller.
 fn open_conversions(file: &str) -> Vec<String> {
-    let code = code_of(file);
+    let code = uncommented(file);
     let blocks = code.split("\nimpl").skip(1);
     let blocks = blocks.map(|block| block.split("\n}\n").next().unwrap_or(block));
     let fault = |block: &str| {

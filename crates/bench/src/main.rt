@@ -36,6 +36,8 @@ impl Bench {
                 let call = call_of(&self.line, &mut self.store);
                 self.desk.answer(&mut self.out, call);
             }
+            // The answer whose write failed is the last.
+            self.out.done()?;
             writeln!(self.out)?;
         }
         self.line.clear();

@@ -2,8 +2,10 @@
 #![tactic(auto)]
 
 pub mod messages;
+#[cfg(test)]
+mod tests;
 
-ghost use Rattle.std.specs.Prelude.{◌≡◌, ◌≤◌, ◌++◌, None, Some, [], length, codes};
+ghost use Rattle.std.specs.Prelude.{◌≡◌, ◌≤◌, ◌<◌, ◌++◌, None, Some, IsOk, [], length, codes};
 ghost use Rattle.std.specs.Fmt.{decimal};
 ghost use Rattle.numbers.specs.Orders.{number_of};
 ghost use Rattle.std.specs.Io.{WritesAtMost};
@@ -47,13 +49,14 @@ impl Out {
 }
 
 impl Write for Out {
-    // Where the buffer is full it is written out first. Once a write has failed, each later one tells it.
+    // Where the buffer is full it is written out first. Where there is room the text is taken, whatever failed before: `done` tells that.
     fn write(&mut self, text: &[u8]) -> io::Result<usize>
         ensures bound { WritesAtMost result text.now }
         ensures bytes { WriteAppends None None result text.now }
         ensures failure { Kept self.old.failed self.new.failed }
+        ensures room { length self.old.octets.items < 65_536 → IsOk result }
     {
-        if self.failed.is_some() || self.octets.is_full() {
+        if self.octets.is_full() {
             self.flush()?;
         }
         self.octets.write(text)

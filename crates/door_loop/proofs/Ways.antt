@@ -1,38 +1,48 @@
--- The ways through the door's calls: where a test came out so, what was stored and said is what the promise says. door_leaving's proof of an Announce cites them.
+-- The ways through the door's calls: where a test came out so, what was stored and said is what the promise says. door_leaving's proof of an Announce cites
+-- them; those of a wipe and of a pulse stand for whoever proves such a step.
 use Rattle.std.specs.Prelude.{Ok, Err, Result}
 use mathlib.Core.Path.{◌≡◌, refl, ap, ◌∙◌}
 use mathlib.Core.Bool.{Bool, true, false, not, cond}
 use mathlib.Core.List.{List, []}
 use Prim.Native.Nat.{ℕ}
 use lib.Dec.{T as Holds, eqb}
+use lib.IntN.{ℤ}
 use lib.ListN.{length, set}
 use Rattle.numbers.specs.declared.stamp.Stamp.{Stamp}
 use Rattle.numbers.specs.declared.refusal.Refusal.{Refusal}
 use Rattle.numbers.specs.declared.refusal.Refusal.TheVariants.{Settings as Outside}
 use Rattle.numbers.specs.Orders.{number_of}
 use Rattle.rules_exchange.specs.Said.{wipes_of as said_wipes}
+use Rattle.rules_watch.specs.Rules.{Answer, wipes_of as pulse_wipes, code_of}
+use Rattle.rules_watch.specs.declared.Pulse.{Pulse}
 use Rattle.wire_layout.specs.declared.message.Message.{Message}
 use Rattle.wire_layout.specs.Reading.{read_of}
 use Rattle.rules_masters.specs.Admitting.{Answer as Admission}
 use Rattle.rules_servo.specs.declared.Servo.{Servo}
 use Rattle.rules_watch.specs.declared.Watch.{Watch}
-use Rattle.rules_watch.specs.Watch.{fresh_watch}
+use Rattle.rules_watch.specs.Watch.{Taken, fresh_watch, taken_of}
 use Rattle.door_records.specs.declared.unit.UnitWords.{UnitWords}
+use Rattle.door_records.specs.declared.unit.StateWords.{StateWords}
 use Rattle.door_records.specs.declared.masters.MasterWords.{MasterWords}
+use Rattle.door_records.specs.Unit.{watch_in}
 use Rattle.door_words.specs.declared.answers.AnswerWords.{AnswerWords}
-use Rattle.door_words.specs.Answers.{refusing, exchanging}
+use Rattle.door_words.specs.Answers.{plain, refusing, exchanging}
 use Rattle.door_core.specs.declared.receiving.Received.{Received}
 use Rattle.door_core.specs.declared.receiving.Received.TheVariants.{Announce, Exchange}
-use Rattle.door_core.specs.Wiping.{emptied_of}
+use Rattle.door_core.specs.Wiping.{wiped_state, emptied_of}
 use Rattle.door_core.specs.Receiving.{Sorted, received_by}
 use Rattle.door_choosing.specs.declared.Held.{Held}
 use Rattle.door_choosing.specs.declared.Seated.{Seated}
 use Rattle.door_choosing.specs.Choosing.{announce_in, seated_of, announced_of, timed_of, passed_of, untabled_of}
 use Rattle.door_measuring.specs.declared.measuring.Told.{Told}
 use Rattle.door_measuring.specs.Measuring.{Telling, heard_told, servo_after}
-use Rattle.door_loop.specs.Lending.{Lent, says, with_state, wiped_in, spoken_in, told_in, heard_in, lent_by, seated_in, seat_in, passed_in, announced_in, received_in, receive_of, time_of}
+use Rattle.door_loop.specs.Lending.{Lent, says, with_state, unit_with, wiped_in, spoken_in, told_in, heard_in, lent_by, seated_in, seat_in, passed_in, announced_in, received_in, receive_of, time_of, pulsed_in, tick_of}
 
 -- ---- a test that held, or did not
+pub held-is : {X : Type 0} (t : Bool) (a b : X) → Holds t → a ≡ cond t a b
+held-is true a b z = refl
+held-is false a b z = absurd z
+
 pub left_is : {X : Type 0} (t : Bool) (a b : X) → Holds (not t) → b ≡ cond t a b
 left_is true a b z = absurd z
 left_is false a b z = refl
@@ -44,6 +54,13 @@ five-is false a b z = absurd z
 -- ---- a watch, part by part
 pub fresh-is : (x : Watch) → (x.head ≡ fresh_watch.head) × (x.references ≡ fresh_watch.references) × (x.ys ≡ fresh_watch.ys) × (x.marks ≡ fresh_watch.marks) → x ≡ fresh_watch
 fresh-is x e i = record { head = e.0 i; references = e.1 i; ys = e.2 i; marks = e.3 i }
+
+-- ---- a wipe: what it empties, with another state
+module _ (w : UnitWords) (s r : StateWords) (t : List MasterWords) (a : AnswerWords) where
+  pub wiped-is : {u : UnitWords} {v : Servo} {y : Watch}
+      → (u ≡ unit_with w s (emptied_of w.settings).halves (emptied_of w.settings).delays) × (v ≡ (emptied_of w.settings).servo) × (y ≡ fresh_watch) → s ≡ r
+      → record { unit = u; servo = v; table = t; watch = y; answer = a } ≡ wiped_in w r t a (emptied_of w.settings)
+  wiped-is e g = (λ i. record { unit = e.0 i; servo = e.1 i; table = t; watch = e.2 i; answer = a }) ∙ ap (λ (x : StateWords). wiped_in w x t a (emptied_of w.settings)) g
 
 -- ---- the exchange
 module _ (w : UnitWords) (v : Servo) (t : List MasterWords) (y : Watch) where
@@ -141,3 +158,25 @@ module _ (w : UnitWords) (v : Servo) (t : List MasterWords) (y : Watch) (now : �
 
   pub time-held : (q : Held) → Ok q ≡ passed_of w.settings w.state t now → lent_by w v t y q ≡ time_of w v t y now
   time-held q e = ap (passed_in w v t y) e ∙ told-pass
+
+-- ---- a second pulse
+module _ (w : UnitWords) (v : Servo) (y : Watch) (reference clock : ℤ) where
+  abbrev taken : Taken
+  taken = taken_of (watch_in w.settings) y reference clock
+
+  pulsed-is : (k : Answer) → k ≡ taken.answer → pulsed_in w v taken.watch k ≡ tick_of w v y reference clock
+  pulsed-is k e = ap (λ (x : Answer). pulsed_in w v taken.watch x) e
+
+  pub tick-refused : (r : Refusal) → Err r ≡ taken.answer → (x : Watch) → x ≡ taken.watch → (a : AnswerWords) → a ≡ refusing (number_of r) → says w v [] x a ≡ tick_of w v y reference clock
+  tick-refused r e x g a f = (λ i. says w v [] (g i) (f i)) ∙ pulsed-is (Err r) e
+
+  module _ (p : Pulse) (e : Ok p ≡ taken.answer) (a : AnswerWords) (f : a ≡ plain (code_of p)) where
+    pub tick-wiped : Holds (pulse_wipes p) → (s : StateWords) {u : UnitWords} {n : Servo} {x : Watch}
+        → (u ≡ unit_with w s (emptied_of w.settings).halves (emptied_of w.settings).delays) × (n ≡ (emptied_of w.settings).servo) × (x ≡ fresh_watch) → s ≡ wiped_state w.state
+        → record { unit = u; servo = n; table = []; watch = x; answer = a } ≡ tick_of w v y reference clock
+    tick-wiped z s h g =
+        wiped-is w s (wiped_state w.state) [] a h g ∙ ap (λ (k : AnswerWords). wiped_in w (wiped_state w.state) [] k (emptied_of w.settings)) f
+        ∙ held-is (pulse_wipes p) _ _ z ∙ pulsed-is (Ok p) e
+
+    pub tick-kept : Holds (not (pulse_wipes p)) → (x : Watch) → x ≡ taken.watch → says w v [] x a ≡ tick_of w v y reference clock
+    tick-kept z x g = (λ i. says w v [] (g i) (f i)) ∙ left_is (pulse_wipes p) _ _ z ∙ pulsed-is (Ok p) e

@@ -5,7 +5,7 @@ pub mod messages;
 #[cfg(test)]
 mod tests;
 
-ghost use Rattle.std.specs.Prelude.{◌≡◌, ◌≤◌, ◌<◌, ◌++◌, None, Some, IsOk, [], length, codes};
+ghost use Rattle.std.specs.Prelude.{◌≡◌, ◌≤◌, ◌<◌, ◌-◌, ◌++◌, None, Some, Ok, [], length, min, codes};
 ghost use Rattle.std.specs.Fmt.{decimal};
 ghost use Rattle.numbers.specs.Orders.{number_of};
 ghost use Rattle.std.specs.Io.{WritesAtMost};
@@ -54,7 +54,8 @@ impl Write for Out {
         ensures bound { WritesAtMost result text.now }
         ensures bytes { WriteAppends None None result text.now }
         ensures failure { Kept self.old.failed self.new.failed }
-        ensures room { length self.old.octets.items < 65_536 → IsOk result }
+        ensures room { length self.old.octets.items < 65_536 → result ≡ Ok (min (65_536 - length self.old.octets.items) (length text.now)) }
+        ensures taken { length self.old.octets.items < 65_536 → WriteAppends (Some self.old.octets.items) (Some self.new.octets.items) result text.now }
     {
         if self.octets.is_full() {
             self.flush()?;

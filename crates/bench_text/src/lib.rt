@@ -49,7 +49,7 @@ impl Out {
 }
 
 impl Write for Out {
-    // Where the buffer is full it is written out first. Where there is room the text is taken, whatever failed before: `done` tells that.
+    // Where the buffer is full it is written out first. Where there is room, as much as fits is taken, whatever failed before: `done` tells that.
     fn write(&mut self, text: &[u8]) -> io::Result<usize>
         ensures bound { WritesAtMost result text.now }
         ensures bytes { WriteAppends None None result text.now }

@@ -1,2 +1,2 @@
--- What of the buffer is told.
+-- What the buffer promises.
 pub mod Out

@@ -5,12 +5,12 @@ pub mod messages;
 #[cfg(test)]
 mod tests;
 
-ghost use Rattle.std.specs.Prelude.{◌≡◌, ◌≤◌, ◌<◌, ◌-◌, ◌++◌, None, Some, Ok, [], length, min, codes};
+ghost use Rattle.std.specs.Prelude.{◌≡◌, ◌≤◌, ◌<◌, ◌++◌, None, Some, Ok, MatchResult, [], length, codes};
 ghost use Rattle.std.specs.Fmt.{decimal};
 ghost use Rattle.numbers.specs.Orders.{number_of};
 ghost use Rattle.std.specs.Io.{WritesAtMost};
 ghost use Rattle.std.specs.Io.KnownBytes.{Keeps, WriteAppends};
-ghost use Rattle.bench_text.specs.Out.{told_by, Kept};
+ghost use Rattle.bench_text.specs.Out.{told_by, Kept, fitting, staying};
 
 use arrayvec::ArrayVec;
 use numbers::refusal::Refusal;
@@ -54,8 +54,9 @@ impl Write for Out {
         ensures bound { WritesAtMost result text.now }
         ensures bytes { WriteAppends None None result text.now }
         ensures failure { Kept self.old.failed self.new.failed }
-        ensures room { length self.old.octets.items < 65_536 → result ≡ Ok (min (65_536 - length self.old.octets.items) (length text.now)) }
-        ensures taken { length self.old.octets.items < 65_536 → WriteAppends (Some self.old.octets.items) (Some self.new.octets.items) result text.now }
+        ensures room { length self.old.octets.items < 65_536 → (result ≡ Ok (fitting self.old.octets.items text.now)) × (self.new.failed ≡ self.old.failed) }
+        ensures full { 65_536 ≤ length self.old.octets.items → MatchResult result (λ n. (self.new.failed ≡ None) × (n ≡ fitting [] text.now)) (λ e. self.new.failed ≡ Some e) }
+        ensures taken { WriteAppends (Some (staying self.old.octets.items)) (Some self.new.octets.items) result text.now }
     {
         if self.octets.is_full() {
             self.flush()?;
